@@ -1,0 +1,6 @@
+pub mod Bits
+pub mod Lists
+pub mod Sizes
+pub mod Refusals
+pub mod Judging
+pub mod Answers

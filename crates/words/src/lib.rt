@@ -1,0 +1,116 @@
+// The words that every crate shares: the four services with their sizes, and the refusals with their numbers.
+ghost use mathlib.Core.Path.{_≡_};
+ghost use Rattle.words.specs.Sizes.{mostSeptets, mostUnits, mostOctets};
+ghost use Rattle.words.specs.Refusals.{numberOf, positionOf};
+
+// What carries the text. An old page is a broadcast page of 1991, which is read only.
+pub enum Service {
+    ShortMessage,
+    Broadcast,
+    Ussd,
+    OldPage,
+}
+
+impl Service {
+    // The most septets of a 7-bit text.
+    pub fn most_septets(self) -> usize
+        ensures answer { λ r. ⌜ r ≡ mostSeptets self ⌝ }
+    {
+        match self {
+            Service::ShortMessage => 160,
+            Service::Broadcast => 93,
+            Service::Ussd => 182,
+            Service::OldPage => 93,
+        }
+    }
+
+    // The most units of a UCS2 text; an old page holds none.
+    pub fn most_units(self) -> usize
+        ensures answer { λ r. ⌜ r ≡ mostUnits self ⌝ }
+    {
+        match self {
+            Service::ShortMessage => 70,
+            Service::Broadcast => 41,
+            Service::Ussd => 80,
+            Service::OldPage => 0,
+        }
+    }
+
+    // The most octets; a broadcast page and an old page have exactly as many.
+    pub fn most_octets(self) -> usize
+        ensures answer { λ r. ⌜ r ≡ mostOctets self ⌝ }
+    {
+        match self {
+            Service::ShortMessage => 140,
+            Service::Broadcast => 82,
+            Service::Ussd => 160,
+            Service::OldPage => 82,
+        }
+    }
+}
+
+// Why a call gives no answer. A case holds a position where document 01 gives one.
+pub enum Refusal {
+    // 1: compressed text.
+    Compressed,
+    // 2: the coding holds no text.
+    NoText,
+    // 3: the coding has the prefix mark.
+    Prefixed,
+    // 4: the octets do not fit the service or the count, or UCS2 octets are odd.
+    WrongLength,
+    // 5: the text is over the service's size.
+    TooLong,
+    // 6: a unit is not in the alphabet; the first such unit.
+    Unlisted { unit: usize },
+    // 7: the lent buffer is shorter than the result.
+    NoRoom,
+    // 8: the reading cannot be written under this service.
+    Unwritable,
+    // 9: a given septet is 128 or more; the first such septet.
+    NoSeptet { septet: usize },
+}
+
+impl Refusal {
+    // The number that document 01 gives it.
+    pub fn number(self) -> u8
+        ensures answer { λ r. ⌜ r ≡ numberOf self ⌝ }
+    {
+        match self {
+            Refusal::Compressed => 1,
+            Refusal::NoText => 2,
+            Refusal::Prefixed => 3,
+            Refusal::WrongLength => 4,
+            Refusal::TooLong => 5,
+            Refusal::Unlisted { unit: _ } => 6,
+            Refusal::NoRoom => 7,
+            Refusal::Unwritable => 8,
+            Refusal::NoSeptet { septet: _ } => 9,
+        }
+    }
+
+    // Where in the input it was found, from 0; 0 for a refusal with no position.
+    pub fn position(self) -> usize
+        ensures answer { λ r. ⌜ r ≡ positionOf self ⌝ }
+    {
+        match self {
+            Refusal::Compressed => 0,
+            Refusal::NoText => 0,
+            Refusal::Prefixed => 0,
+            Refusal::WrongLength => 0,
+            Refusal::TooLong => 0,
+            Refusal::Unlisted { unit } => unit,
+            Refusal::NoRoom => 0,
+            Refusal::Unwritable => 0,
+            Refusal::NoSeptet { septet } => septet,
+        }
+    }
+}
+
+// What a call answers that fills a lent buffer.
+pub enum Filled {
+    // How many elements it stored at the front.
+    Done(usize),
+    // Why it stored none.
+    Refused(Refusal),
+}
