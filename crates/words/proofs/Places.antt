@@ -4,11 +4,11 @@ use mathlib.Core.Path.{_≡_, refl, ap, _∙_, sym}
 use mathlib.Core.Bool.{Bool, true, false}
 use mathlib.Core.List.{List, [], _∷_}
 use Prim.Native.Nat.{ℕ, zero, suc, _+_, _≤_, _<_}
-use native.Mathlib.Nat.{zero-add, le-of-suc-le-suc, not-suc-le-zero}
+use native.Mathlib.Nat.{zero-add, add-zero, suc-add, add-suc, le-of-suc-le-suc, not-suc-le-zero}
 use native.Mathlib.Numerals.{add-one}
 use native.Mathlib.Omega.{arith}
 use lib.ListN.{length, getD, drop}
-use Rattle.words.specs.Lists.{firstPlace}
+use Rattle.words.specs.Lists.{firstPlace, numbersFrom}
 
 later : (f : ℕ → Bool) (s : List ℕ) (i : ℕ) → i < length s → f (getD s i 0) ≡ false → firstPlace f (drop i s) ≡ suc (firstPlace f (drop (suc i) s))
 unfolding firstPlace
@@ -89,3 +89,15 @@ place-none f [] h = refl
 place-none f (x ∷ xs) h =
     let e : f x ≡ false = h 0 (omega arith) in
     rw (e, firstPlace) (ap suc (place-none f xs (λ k l. h (suc k) (omega arith))))
+
+-- a run of numbers
+pub numbers-length : (i n : ℕ) → length (numbersFrom i n) ≡ n
+unfolding numbersFrom
+numbers-length i zero = refl
+numbers-length i (suc n) = ap suc (numbers-length (suc i) n)
+
+pub numbers-at : (i n k : ℕ) → k < n → getD (numbersFrom i n) k 0 ≡ i + k
+unfolding numbersFrom
+numbers-at i zero k h = absurd (not-suc-le-zero h)
+numbers-at i (suc n) zero h = sym (add-zero i)
+numbers-at i (suc n) (suc k) h = numbers-at (suc i) n k (le-of-suc-le-suc h) ∙ suc-add i k ∙ sym (add-suc i k)

@@ -1,0 +1,89 @@
+-- Any two outcomes that the contract of a public call of this crate allows coincide: each contract is an equation.
+-- Assumes nothing.
+use mathlib.Core.Path.{_∙_, sym}
+use Rattle.words.proofs.Unique.{OneAnswer}
+use Rattle.coding.proofs.Alphabet.number.Kinds as alphabet-number-kinds
+use Rattle.coding.proofs.Alphabet.number.Reads as alphabet-number-reads
+use Rattle.coding.proofs.Class.number.Kinds as class-number-kinds
+use Rattle.coding.proofs.Class.number.Reads as class-number-reads
+use Rattle.coding.proofs.Language.number.Kinds as language-number-kinds
+use Rattle.coding.proofs.Language.number.Reads as language-number-reads
+use Rattle.coding.proofs.Kind.number.Kinds as kind-number-kinds
+use Rattle.coding.proofs.Kind.number.Reads as kind-number-reads
+use Rattle.coding.proofs.Notice.number.Kinds as notice-number-kinds
+use Rattle.coding.proofs.Notice.number.Reads as notice-number-reads
+use Rattle.coding.proofs.Reading.plain.Kinds as plain-kinds
+use Rattle.coding.proofs.Reading.plain.Reads as plain-reads
+use Rattle.coding.proofs.Reading.with_alphabet.Kinds as with-alphabet-kinds
+use Rattle.coding.proofs.Reading.with_alphabet.Reads as with-alphabet-reads
+use Rattle.coding.proofs.Reading.with_compressed.Kinds as with-compressed-kinds
+use Rattle.coding.proofs.Reading.with_compressed.Reads as with-compressed-reads
+use Rattle.coding.proofs.Reading.with_class.Kinds as with-class-kinds
+use Rattle.coding.proofs.Reading.with_class.Reads as with-class-reads
+use Rattle.coding.proofs.Reading.with_language.Kinds as with-language-kinds
+use Rattle.coding.proofs.Reading.with_language.Reads as with-language-reads
+use Rattle.coding.proofs.Reading.with_deletion.Kinds as with-deletion-kinds
+use Rattle.coding.proofs.Reading.with_deletion.Reads as with-deletion-reads
+use Rattle.coding.proofs.Reading.with_notice.Kinds as with-notice-kinds
+use Rattle.coding.proofs.Reading.with_notice.Reads as with-notice-reads
+use Rattle.coding.proofs.Reading.with_prefix.Kinds as with-prefix-kinds
+use Rattle.coding.proofs.Reading.with_prefix.Reads as with-prefix-reads
+use Rattle.coding.proofs.Reading.same.Kinds as same-kinds
+use Rattle.coding.proofs.Reading.same.Reads as same-reads
+use Rattle.coding.proofs.Reading.write.Kinds as write-kinds
+use Rattle.coding.proofs.Reading.write.Reads as write-reads
+use Rattle.coding.proofs.Reading.holds.Kinds as holds-kinds
+use Rattle.coding.proofs.Reading.holds.Reads as holds-reads
+use Rattle.coding.proofs.read_octet.Kinds as read-octet-kinds
+use Rattle.coding.proofs.read_octet.Reads as read-octet-reads
+
+pub alphabet-number-unique : OneAnswer alphabet-number-kinds.ps alphabet-number-kinds.r alphabet-number-reads.Post
+alphabet-number-unique κs a x y u v p q = p ∙ sym q
+
+pub class-number-unique : OneAnswer class-number-kinds.ps class-number-kinds.r class-number-reads.Post
+class-number-unique κs a x y u v p q = p ∙ sym q
+
+pub language-number-unique : OneAnswer language-number-kinds.ps language-number-kinds.r language-number-reads.Post
+language-number-unique κs a x y u v p q = p ∙ sym q
+
+pub kind-number-unique : OneAnswer kind-number-kinds.ps kind-number-kinds.r kind-number-reads.Post
+kind-number-unique κs a x y u v p q = p ∙ sym q
+
+pub notice-number-unique : OneAnswer notice-number-kinds.ps notice-number-kinds.r notice-number-reads.Post
+notice-number-unique κs a x y u v p q = p ∙ sym q
+
+pub plain-unique : OneAnswer plain-kinds.ps plain-kinds.r plain-reads.Post
+plain-unique κs a x y u v p q = p ∙ sym q
+
+pub with-alphabet-unique : OneAnswer with-alphabet-kinds.ps with-alphabet-kinds.r with-alphabet-reads.Post
+with-alphabet-unique κs a x y u v p q = p ∙ sym q
+
+pub with-compressed-unique : OneAnswer with-compressed-kinds.ps with-compressed-kinds.r with-compressed-reads.Post
+with-compressed-unique κs a x y u v p q = p ∙ sym q
+
+pub with-class-unique : OneAnswer with-class-kinds.ps with-class-kinds.r with-class-reads.Post
+with-class-unique κs a x y u v p q = p ∙ sym q
+
+pub with-language-unique : OneAnswer with-language-kinds.ps with-language-kinds.r with-language-reads.Post
+with-language-unique κs a x y u v p q = p ∙ sym q
+
+pub with-deletion-unique : OneAnswer with-deletion-kinds.ps with-deletion-kinds.r with-deletion-reads.Post
+with-deletion-unique κs a x y u v p q = p ∙ sym q
+
+pub with-notice-unique : OneAnswer with-notice-kinds.ps with-notice-kinds.r with-notice-reads.Post
+with-notice-unique κs a x y u v p q = p ∙ sym q
+
+pub with-prefix-unique : OneAnswer with-prefix-kinds.ps with-prefix-kinds.r with-prefix-reads.Post
+with-prefix-unique κs a x y u v p q = p ∙ sym q
+
+pub same-unique : OneAnswer same-kinds.ps same-kinds.r same-reads.Post
+same-unique κs a x y u v p q = p ∙ sym q
+
+pub write-unique : OneAnswer write-kinds.ps write-kinds.r write-reads.Post
+write-unique κs a x y u v p q = p ∙ sym q
+
+pub holds-unique : OneAnswer holds-kinds.ps holds-kinds.r holds-reads.Post
+holds-unique κs a x y u v p q = p ∙ sym q
+
+pub read-octet-unique : OneAnswer read-octet-kinds.ps read-octet-kinds.r read-octet-reads.Post
+read-octet-unique κs a x y u v p q = p ∙ sym q

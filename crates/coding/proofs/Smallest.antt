@@ -1,0 +1,136 @@
+-- The one octet that Reading::write tries is the smallest that reads so, wherever one does: one computed test over the 256 octets of
+-- each table, and one law that carries it to every reading.
+-- Assumes nothing.
+use mathlib.Core.Path.{_≡_, refl, ap, _∙_, sym, subst}
+use mathlib.Core.Bool.{Bool, true, false, cond}
+use Prim.Native.Nat.{ℕ, _+_, _%_, _≤_, _<_}
+use native.Mathlib.Nat.{mod-lt, zero-add}
+use native.Mathlib.Omega.{arith}
+use native.Mathlib.Decide.{decLe}
+use borrow.Author.Tests.{eq-eqb, ne-eqb}
+use lib.Dec.{T, eqb, leb, leb→le, lit<}
+use lib.ListN.{length, getD}
+use Rattle.words.specs.Bits.{bitOf, bitsFrom, bitsOf}
+use Rattle.words.specs.Lists.{firstPlace, numbersFrom}
+use Rattle.words.specs.Judging.{verdict}
+use Rattle.words.specs.declared.Service.{Service}
+use Rattle.words.specs.declared.Service.the-variants.{ShortMessage, Broadcast, Ussd, OldPage}
+use Rattle.words.specs.declared.Refusal.the-variants.{Unwritable}
+use Rattle.words.proofs.Tests.{both, both-left, both-right, everyBelow, every-below}
+use Rattle.words.proofs.Places.{place-before, place-holds, place-most, numbers-at, numbers-length}
+use Rattle.coding.specs.declared.Reading.{Reading}
+use Rattle.coding.specs.declared.OctetWritten.{OctetWritten}
+use Rattle.coding.specs.declared.OctetWritten.the-variants.{Done, Refused}
+use Rattle.coding.specs.OctetRead.{classIn, discardIn, storeIn, generalReading, noticeReading, lastReading, readShort, readPage, readUnder}
+use Rattle.coding.specs.OctetWritten.{sameReading, isOldPage, smallest, writeRules, octetWrites}
+use Rattle.coding.specs.Inner.{generalOctet, shortCandidate, pageCandidate, checkedOctet}
+use Rattle.coding.proofs.Same.{same-sound, same-complete}
+
+-- octet o is reserved, or what is tried for its reading is no larger and reads the same
+abbrev good : (ℕ → Reading) → (Reading → ℕ) → ℕ → Bool
+good read tried o = cond (read o .reserved) true (both (leb (tried (read o)) o) (sameReading (read (tried (read o))) (read o)))
+
+short-good : T (everyBelow (good readShort shortCandidate) 256)
+unfolding readShort generalReading noticeReading lastReading classIn discardIn storeIn bitsOf bitsFrom bitOf generalOctet
+short-good = tt
+
+page-good : T (everyBelow (good readPage pageCandidate) 256)
+unfolding readPage generalReading lastReading classIn bitsOf bitsFrom bitOf generalOctet
+page-good = tt
+
+-- the place of the first octet that reads as r
+abbrev found : (ℕ → Reading) → Reading → ℕ
+found read r = firstPlace (λ (o : ℕ). sameReading (read o) r) (numbersFrom 0 256)
+
+unmarked : (t u : Bool) → t ≡ false → T (cond t true u) → T u
+unmarked true u e h = absurd (subst T e tt)
+unmarked false u e h = h
+
+at : (k : ℕ) → k < 256 → getD (numbersFrom 0 256) k 0 ≡ k
+at k h = numbers-at 0 256 k h ∙ zero-add k
+
+module _ (read : ℕ → Reading) (r : Reading) where
+  -- the first octet that reads as r does so, and no octet before it
+  pub found-reads : found read r < 256 → T (sameReading (read (found read r)) r)
+  found-reads l =
+      subst (λ (k : ℕ). T (sameReading (read k) r)) (at (found read r) l)
+      (subst T
+      (sym (place-holds (λ (o : ℕ). sameReading (read o) r) (numbersFrom 0 256) (subst (λ (n : ℕ). found read r < n) (sym (numbers-length 0 256)) l)))
+      tt)
+
+  pub found-least : (k : ℕ) → k < 256 → T (sameReading (read k) r) → found read r ≤ k
+  found-least k l h =
+      elim (decLe (found read r) k) [
+        | yes m ↦ m
+        | no m ↦
+            absurd
+            (subst T
+            (sym (ap (λ (o : ℕ). sameReading (read o) r) (at k l)) ∙ place-before (λ (o : ℕ). sameReading (read o) r) (numbersFrom 0 256) k (omega arith))
+            h)
+      ]
+
+module _ (read : ℕ → Reading) (tried : Reading → ℕ) (all : T (everyBelow (good read tried) 256)) (r : Reading) (plain : r .reserved ≡ false) where
+  -- what is tried for r is no larger than an octet that reads as r, and reads as r
+  good-at : (k : ℕ) → k < 256 → T (sameReading (read k) r) → T (both (leb (tried r) k) (sameReading (read (tried r)) r))
+  good-at k l h =
+      unmarked (r .reserved) _ plain
+      (subst (λ (x : Reading). T (cond (x .reserved) true (both (leb (tried x) k) (sameReading (read (tried x)) x)))) (same-sound (read k) r h)
+      (every-below (good read tried) 256 all k l))
+
+  found-tried : tried r < 256 → T (sameReading (read (tried r)) r) → found read r ≡ tried r
+  found-tried l h =
+      let low : found read r ≤ tried r = found-least read r (tried r) l h in
+      let here : T (both (leb (tried r) (found read r)) (sameReading (read (tried r)) r)) = good-at (found read r) (omega arith) (found-reads read r (omega arith)) in
+      let high : tried r ≤ found read r = leb→le _ _ (both-left (leb (tried r) (found read r)) (sameReading (read (tried r)) r) here) in
+      omega arith
+
+  found-none : (T (sameReading (read (tried r)) r) → ⊥) → found read r ≡ 256
+  found-none n =
+      let most : found read r ≤ 256 = subst (λ (k : ℕ). found read r ≤ k) (numbers-length 0 256) (place-most (λ (o : ℕ). sameReading (read o) r) (numbersFrom 0 256)) in
+      elim (decLe 256 (found read r)) [
+        | yes m ↦ omega arith
+        | no m ↦
+            absurd
+            (n
+            (both-right (leb (tried r) (found read r)) (sameReading (read (tried r)) r)
+            (good-at (found read r) (omega arith) (found-reads read r (omega arith)))))
+      ]
+
+-- how the definition settles
+pub write-reserved : (s : Service) (r : Reading) → r .reserved ≡ true → octetWrites s r ≡ Refused Unwritable
+unfolding octetWrites writeRules verdict
+write-reserved ShortMessage r e = simp e
+write-reserved Broadcast r e = simp e
+write-reserved Ussd r e = simp e
+write-reserved OldPage r e = refl
+
+pub write-old : (r : Reading) → octetWrites OldPage r ≡ Refused Unwritable
+unfolding octetWrites writeRules verdict
+write-old r = refl
+
+pub write-found : (s : Service) (r : Reading) (o : ℕ) → isOldPage s ≡ false → r .reserved ≡ false → smallest s r ≡ o → o < 256 → octetWrites s r ≡ Done o
+unfolding octetWrites writeRules verdict
+write-found s r o new plain e l = simp (new, plain, e, ne-eqb o 256 (omega arith))
+
+pub write-none : (s : Service) (r : Reading) → isOldPage s ≡ false → r .reserved ≡ false → smallest s r ≡ 256 → octetWrites s r ≡ Refused Unwritable
+unfolding octetWrites writeRules verdict
+write-none s r new plain e = simp (new, plain, e)
+
+-- writing gives the octet tried, if it reads as r
+by-try : (s : Service) (tried : Reading → ℕ) → isOldPage s ≡ false → T (everyBelow (good (readUnder s) tried) 256) → (r : Reading) → r .reserved ≡ false → tried r < 256
+    → octetWrites s r ≡ checkedOctet r (tried r) (readUnder s (tried r))
+unfolding smallest
+by-try s tried new all r plain l = go (sameReading (readUnder s (tried r)) r) refl
+  where
+    go : (b : Bool) → sameReading (readUnder s (tried r)) r ≡ b → octetWrites s r ≡ cond b (Done (tried r)) (Refused Unwritable)
+    go true e = write-found s r (tried r) new plain (found-tried (readUnder s) tried all r plain l (subst T (sym e) tt)) l
+    go false e = write-none s r new plain (found-none (readUnder s) tried all r plain (λ h. subst T e h))
+
+pub write-short : (r : Reading) → r .reserved ≡ false → octetWrites ShortMessage r ≡ checkedOctet r (shortCandidate r) (readShort (shortCandidate r))
+write-short r plain = by-try ShortMessage shortCandidate refl short-good r plain (mod-lt _ (lit< tt))
+
+pub write-broadcast : (r : Reading) → r .reserved ≡ false → octetWrites Broadcast r ≡ checkedOctet r (pageCandidate r) (readPage (pageCandidate r))
+write-broadcast r plain = by-try Broadcast pageCandidate refl page-good r plain (mod-lt _ (lit< tt))
+
+pub write-ussd : (r : Reading) → r .reserved ≡ false → octetWrites Ussd r ≡ checkedOctet r (pageCandidate r) (readPage (pageCandidate r))
+write-ussd r plain = by-try Ussd pageCandidate refl page-good r plain (mod-lt _ (lit< tt))

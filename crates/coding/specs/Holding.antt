@@ -1,0 +1,35 @@
+-- Document 01, refusals 1 to 3: whether a reading holds text that the base reads and writes.
+-- Own rule: none. Cited by Reading::holds. Assumes nothing.
+--   textRules r == why a reading holds no text: 1 compressed, 2 8-bit or WAP, 3 prefix mark
+--   holdsText r == the alphabet of its text, or the refusal
+use mathlib.Core.Bool.{Bool, true, false, cond}
+use mathlib.Core.List.{List, [], _∷_}
+use Rattle.words.specs.Judging.{Rule, when, verdict, settle}
+use Rattle.words.specs.declared.Refusal.the-variants.{Compressed, NoText, Prefixed}
+use Rattle.coding.specs.declared.Alphabet.{Alphabet}
+use Rattle.coding.specs.declared.Alphabet.the-variants.{SevenBit, EightBit, Ucs2, Wap}
+use Rattle.coding.specs.declared.Reading.{Reading}
+use Rattle.coding.specs.declared.Held.{Held}
+use Rattle.coding.specs.declared.Held.the-variants.{Septets, Units, Refused}
+
+abbrev pub isData : Alphabet → Bool
+isData SevenBit = false
+isData EightBit = true
+isData Ucs2 = false
+isData Wap = true
+
+abbrev pub isUcs2 : Alphabet → Bool
+isUcs2 SevenBit = false
+isUcs2 EightBit = false
+isUcs2 Ucs2 = true
+isUcs2 Wap = false
+
+abbrev pub textRules : Reading → List Rule
+textRules r =
+    when (r .compressed) Compressed
+    ∷ when (isData (r .alphabet)) NoText
+    ∷ when (r .prefix) Prefixed
+    ∷ []
+
+unfoldable pub holdsText : Reading → Held
+holdsText r = settle (verdict (textRules r)) Refused (cond (isUcs2 (r .alphabet)) Units Septets)

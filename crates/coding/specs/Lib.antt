@@ -1,0 +1,6 @@
+pub mod Readings
+pub mod OctetRead
+pub mod Numbers
+pub mod OctetWritten
+pub mod Holding
+pub mod Inner
