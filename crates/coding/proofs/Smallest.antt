@@ -3,13 +3,13 @@
 -- Assumes nothing.
 use mathlib.Core.Path.{_≡_, refl, ap, _∙_, sym, subst}
 use mathlib.Core.Bool.{Bool, true, false, cond}
-use Prim.Native.Nat.{ℕ, _+_, _%_, _≤_, _<_}
+use Prim.Native.Nat.{ℕ, _≤_, _<_}
 use native.Mathlib.Nat.{mod-lt, zero-add}
 use native.Mathlib.Omega.{arith}
 use native.Mathlib.Decide.{decLe}
-use borrow.Author.Tests.{eq-eqb, ne-eqb}
-use lib.Dec.{T, eqb, leb, leb→le, lit<}
-use lib.ListN.{length, getD}
+use borrow.Author.Tests.{ne-eqb}
+use lib.Dec.{T, leb, leb→le, lit<}
+use lib.ListN.{getD}
 use Rattle.words.specs.Bits.{bitOf, bitsFrom, bitsOf}
 use Rattle.words.specs.Lists.{firstPlace, numbersFrom}
 use Rattle.words.specs.Judging.{verdict}
@@ -19,12 +19,11 @@ use Rattle.words.specs.declared.Refusal.the-variants.{Unwritable}
 use Rattle.words.proofs.Tests.{both, both-left, both-right, everyBelow, every-below}
 use Rattle.words.proofs.Places.{place-before, place-holds, place-most, numbers-at, numbers-length}
 use Rattle.coding.specs.declared.Reading.{Reading}
-use Rattle.coding.specs.declared.OctetWritten.{OctetWritten}
 use Rattle.coding.specs.declared.OctetWritten.the-variants.{Done, Refused}
 use Rattle.coding.specs.OctetRead.{classIn, discardIn, storeIn, generalReading, noticeReading, lastReading, readShort, readPage, readUnder}
 use Rattle.coding.specs.OctetWritten.{sameReading, isOldPage, smallest, writeRules, octetWrites}
 use Rattle.coding.specs.Inner.{generalOctet, shortCandidate, pageCandidate, checkedOctet}
-use Rattle.coding.proofs.Same.{same-sound, same-complete}
+use Rattle.coding.proofs.Same.{same-sound}
 
 -- octet o is reserved, or what is tried for its reading is no larger and reads the same
 abbrev good : (ℕ → Reading) → (Reading → ℕ) → ℕ → Bool

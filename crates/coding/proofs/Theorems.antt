@@ -6,14 +6,12 @@
 --   read-rewritten   an octet that is not reserved is written no larger than it was, and reads the same
 --   octet-counts     reserved octets and writable readings of each service
 use mathlib.Core.Path.{_≡_, refl, ap, _∙_, sym, subst}
-use mathlib.Core.Bool.{Bool, true, false, cond}
+use mathlib.Core.Bool.{Bool, true, false}
 use mathlib.Core.List.{List, [], _∷_}
-use Prim.Native.Nat.{ℕ, zero, suc, _+_, _≤_, _<_}
+use Prim.Native.Nat.{ℕ, zero, suc, _≤_, _<_}
 use native.Mathlib.Omega.{arith}
-use native.Mathlib.Decide.{decLe}
-use borrow.Author.Tests.{eq-eqb, ne-eqb}
-use lib.Dec.{T, eqb, eqb→eq}
-use lib.ListN.{length}
+use borrow.Author.Tests.{eq-eqb}
+use lib.Dec.{T, eqb}
 use Rattle.words.specs.Lists.{firstPlace, numbersFrom}
 use Rattle.words.specs.Judging.{when, verdict, settle}
 use Rattle.words.specs.declared.Service.{Service}
@@ -29,7 +27,7 @@ use Rattle.words.specs.Bits.{bitOf, bitsFrom, bitsOf}
 use Rattle.words.proofs.Tests.{both}
 use Rattle.coding.specs.OctetWritten.{sameReading, isOldPage, smallest, writeRules, octetWrites}
 use Rattle.coding.proofs.Same.{same-sound, same-complete}
-use Rattle.coding.proofs.Smallest.{found-reads, found-least, write-found, write-none, write-reserved, write-old}
+use Rattle.coding.proofs.Smallest.{found-reads, found-least, write-found}
 
 -- a service that writes reads every octet
 pub reads-all : (s : Service) (o : ℕ) → isOldPage s ≡ false → octetReads s o ≡ read.Done (readUnder s o)

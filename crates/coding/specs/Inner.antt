@@ -8,7 +8,7 @@
 --   shortCandidate r, pageCandidate r == the one octet to try: the smallest that reads as r, if any octet does
 --   checkedOctet r o back == octet o, which reads as back, if that is r
 use Prim.Native.Nat.{ℕ, _+_, _*_, _/_, _%_}
-use mathlib.Core.Bool.{Bool, true, false, cond}
+use mathlib.Core.Bool.{cond}
 use lib.Dec.{eqb, ltb}
 use Rattle.words.specs.declared.Refusal.the-variants.{Unwritable}
 use Rattle.coding.specs.declared.Class.{Class}

@@ -6,7 +6,7 @@
 --   octetRules s o  == the refusals of reading octet o under service s, in order
 --   octetReads s o  == the reading of octet o under service s, or the refusal
 use Prim.Native.Nat.{ℕ}
-use mathlib.Core.Bool.{Bool, true, false, cond}
+use mathlib.Core.Bool.{Bool, true, cond}
 use mathlib.Core.List.{List, [], _∷_}
 use lib.Dec.{ltb, eqb}
 use lib.ListN.{getD}
@@ -24,7 +24,7 @@ use Rattle.coding.specs.declared.Language.the-variants.{German, English,
 use Rattle.coding.specs.declared.Kind.{Kind}
 use Rattle.coding.specs.declared.Kind.the-variants.{Voicemail, Fax, Mail, Other}
 use Rattle.coding.specs.declared.Notice.{Notice}
-use Rattle.coding.specs.declared.Notice.the-variants.{Nothing, Discard, Store}
+use Rattle.coding.specs.declared.Notice.the-variants.{Discard, Store}
 use Rattle.coding.specs.declared.Reading.{Reading}
 use Rattle.coding.specs.declared.OctetRead.{OctetRead}
 use Rattle.coding.specs.declared.OctetRead.the-variants.{Done, Refused}

@@ -5,7 +5,7 @@
 --   smallest s r     == the first octet of 0 to 255 that reads as r under service s, and 256 where none does
 --   writeRules s r   == the refusals of writing r under s, in order
 --   octetWrites s r  == the octet that writing r under s gives, or the refusal
-use Prim.Native.Nat.{ℕ, zero, suc}
+use Prim.Native.Nat.{ℕ}
 use mathlib.Core.Bool.{Bool, true, false, cond}
 use mathlib.Core.List.{List, [], _∷_}
 use lib.Dec.{eqb}

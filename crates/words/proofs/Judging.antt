@@ -4,7 +4,7 @@ use mathlib.Core.Path.{_≡_, refl}
 use mathlib.Core.Bool.{Bool, true, false}
 use mathlib.Core.List.{List, [], _∷_}
 use Rattle.words.specs.declared.Refusal.{Refusal}
-use Rattle.words.specs.Judging.{Rule, when, Verdict, refused, accepted, verdict}
+use Rattle.words.specs.Judging.{Rule, when, refused, accepted, verdict}
 
 -- the first rule applies
 pub verdict-here : {t : Bool} (r : Refusal) (rules : List Rule) → t ≡ true → verdict (when t r ∷ rules) ≡ refused r

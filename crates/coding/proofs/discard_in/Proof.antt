@@ -1,18 +1,14 @@
+-- `discard_in` meets its contract: bits 1..0 are the remainder by 4, and bit 3 is a quotient. Assumes nothing.
 use Rattle.coding.proofs.OctetBits.{bits-1-0}
 use Rattle.coding.specs.OctetRead.{discardIn}
 use Rattle.words.specs.Bits.{bitOf}
 use borrow.Author.Needs.{needs}
 use Rattle.coding.proofs.discard_in.Statement.{statement}
 use Rattle.coding.proofs.discard_in.Tie as tie
-use Rattle.coding.proofs.discard_in.Reads as reads
-use Rattle.coding.proofs.discard_in.Lts as lts
-use Rattle.coding.proofs.kind_of.Reads as kind-of-reads
 
--- src/lib.rt:449:9
 kind-of-requires : tie.Need-kind-of-requires
 kind-of-requires c κs = search needs
 
--- src/lib.rt:446:1
 returns : tie.Need-returns
 unfolding discardIn bitOf
 returns c = simp (bits-1-0, c .kind-of .ensures)

@@ -1,49 +1,34 @@
+-- `general` meets its contract: bits 3..2 and bit 5 are quotients and remainders, and the copies change what the definition changes. Assumes nothing.
 use Rattle.coding.proofs.OctetBits.{bits-3-2}
 use Rattle.coding.specs.OctetRead.{generalReading}
 use Rattle.words.specs.Bits.{bitOf}
-use borrow.Author.Tests.{eq-eqb, ne-eqb, lt-ltb, le-ltb}
+use borrow.Author.Tests.{eq-eqb, ne-eqb}
 use borrow.Author.Needs.{needs}
 use Rattle.coding.proofs.general.Statement.{statement}
 use Rattle.coding.proofs.general.Tie as tie
-use Rattle.coding.proofs.general.Reads as reads
-use Rattle.coding.proofs.general.Lts as lts
-use Rattle.coding.proofs.Reading.unknown.Reads as unknown-reads
-use Rattle.coding.proofs.Reading.with_alphabet.Reads as with-alphabet-reads
-use Rattle.coding.proofs.Reading.with_class.Reads as with-class-reads
-use Rattle.coding.proofs.Reading.with_compressed.Reads as with-compressed-reads
-use Rattle.coding.proofs.alphabet_of.Reads as alphabet-of-reads
-use Rattle.coding.proofs.class_in.Reads as class-in-reads
 
--- src/lib.rt:429:9
 unknown-requires : tie.Need-unknown-requires
 unknown-requires c κs = search needs
 
--- src/lib.rt:429:9
 returns : tie.Need-returns
 unfolding generalReading bitOf
 returns c = simp (bits-3-2, eq-eqb _ _ (c .before .if1 .taken), c .unknown .ensures)
 
--- src/lib.rt:431:9
 class-in-requires : tie.Need-class-in-requires
 class-in-requires c κs = search needs
 
--- src/lib.rt:432:9
 alphabet-of-requires : tie.Need-alphabet-of-requires
 alphabet-of-requires c κs = search needs
 
--- src/lib.rt:433:5
 with-class-requires : tie.Need-with-class-requires
 with-class-requires c κs = search needs
 
--- src/lib.rt:433:5
 with-alphabet-requires : tie.Need-with-alphabet-requires
 with-alphabet-requires c κs = search needs
 
--- src/lib.rt:433:5
 with-compressed-requires : tie.Need-with-compressed-requires
 with-compressed-requires c κs = search needs
 
--- src/lib.rt:424:1
 returns-2 : tie.Need-returns-2
 unfolding generalReading bitOf
 returns-2 c = simp (bits-3-2, ne-eqb _ _ (c .before .before .before .before .before .if1 .left), c .with-compressed .ensures, c .before .with-alphabet .ensures, c .before .before .with-class .ensures, c .before .before .before .alphabet-of .ensures, c .before .before .before .before .class-in .ensures)

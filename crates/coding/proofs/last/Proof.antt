@@ -1,43 +1,31 @@
+-- `last` meets its contract: bits 3 and 2 are quotients. Assumes nothing.
 use Rattle.coding.specs.OctetRead.{lastReading}
 use Rattle.words.specs.Bits.{bitOf}
-use borrow.Author.Tests.{eq-eqb, ne-eqb, lt-ltb, le-ltb}
+use borrow.Author.Tests.{eq-eqb, ne-eqb}
 use borrow.Author.Needs.{needs}
 use Rattle.coding.proofs.last.Statement.{statement}
 use Rattle.coding.proofs.last.Tie as tie
-use Rattle.coding.proofs.last.Reads as reads
-use Rattle.coding.proofs.last.Lts as lts
-use Rattle.coding.proofs.Reading.plain.Reads as plain-reads
-use Rattle.coding.proofs.Reading.unknown.Reads as unknown-reads
-use Rattle.coding.proofs.Reading.with_alphabet.Reads as with-alphabet-reads
-use Rattle.coding.proofs.Reading.with_class.Reads as with-class-reads
 
--- src/lib.rt:471:9
 unknown-requires : tie.Need-unknown-requires
 unknown-requires c κs = search needs
 
--- src/lib.rt:471:9
 returns : tie.Need-returns
 unfolding lastReading bitOf
 returns c = simp (eq-eqb _ _ (c .before .if1 .taken), c .unknown .ensures)
 
--- src/lib.rt:473:16
 plain-requires : tie.Need-plain-requires
 plain-requires c κs = search needs
 
--- src/lib.rt:473:9
 with-class-requires : tie.Need-with-class-requires
 with-class-requires c κs = search needs
 
--- src/lib.rt:475:9
 with-alphabet-requires : tie.Need-with-alphabet-requires
 with-alphabet-requires c κs = search needs
 
--- src/lib.rt:467:1
 returns-2 : tie.Need-returns-2
 unfolding lastReading bitOf
 returns-2 c = simp (ne-eqb _ _ (c .before .before .before .before .if1 .left), eq-eqb _ _ (c .before .if2 .taken), c .with-alphabet .ensures, c .before .before .with-class .ensures, c .before .before .before .plain .ensures)
 
--- src/lib.rt:467:1
 returns-3 : tie.Need-returns-3
 unfolding lastReading bitOf
 returns-3 c = simp (ne-eqb _ _ (c .before .before .before .if1 .left), ne-eqb _ _ (c .if2 .left), c .before .with-class .ensures, c .before .before .plain .ensures)

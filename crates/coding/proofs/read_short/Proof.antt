@@ -1,127 +1,91 @@
+-- `read_short` meets its contract: the bounds of each branch decide bits 7..4, and with them the line of the table. Assumes nothing.
 use Rattle.coding.proofs.OctetBits.{bits-1-0, bits-7-4, bits-7-6}
 use Rattle.coding.specs.OctetRead.{readShort}
 use native.Mathlib.Omega.{arith}
-use Prim.Native.Nat.{_/_, _<_, _≤_}
-use borrow.Author.Tests.{eq-eqb, ne-eqb, lt-ltb, le-ltb}
+use Prim.Native.Nat.{_/_}
+use borrow.Author.Tests.{eq-eqb, ne-eqb}
 use borrow.Author.Needs.{needs}
 use Rattle.coding.proofs.read_short.Statement.{statement}
 use Rattle.coding.proofs.read_short.Tie as tie
-use Rattle.coding.proofs.read_short.Reads as reads
-use Rattle.coding.proofs.read_short.Lts as lts
-use Rattle.coding.proofs.Reading.plain.Reads as plain-reads
-use Rattle.coding.proofs.Reading.unknown.Reads as unknown-reads
-use Rattle.coding.proofs.Reading.with_alphabet.Reads as with-alphabet-reads
-use Rattle.coding.proofs.Reading.with_deletion.Reads as with-deletion-reads
-use Rattle.coding.proofs.class_of.Reads as class-of-reads
-use Rattle.coding.proofs.discard_in.Reads as discard-in-reads
-use Rattle.coding.proofs.general.Reads as general-reads
-use Rattle.coding.proofs.last.Reads as last-reads
-use Rattle.coding.proofs.store_in.Reads as store-in-reads
-use Rattle.coding.proofs.waiting.Reads as waiting-reads
 
--- src/lib.rt:485:24
 plain-requires : tie.Need-plain-requires
 plain-requires c κs = search needs
 
--- src/lib.rt:485:9
 general-requires : tie.Need-general-requires
 general-requires c κs = search needs
 
--- src/lib.rt:487:24
 plain-requires-2 : tie.Need-plain-requires-2
 plain-requires-2 c κs = search needs
 
--- src/lib.rt:487:24
 with-deletion-requires : tie.Need-with-deletion-requires
 with-deletion-requires c κs = search needs
 
--- src/lib.rt:487:9
 general-requires-2 : tie.Need-general-requires-2
 general-requires-2 c κs = search needs
 
--- src/lib.rt:489:9
 unknown-requires : tie.Need-unknown-requires
 unknown-requires c κs = search needs
 
--- src/lib.rt:491:24
 discard-in-requires : tie.Need-discard-in-requires
 discard-in-requires c κs = search needs
 
--- src/lib.rt:491:43
 plain-requires-3 : tie.Need-plain-requires-3
 plain-requires-3 c κs = search needs
 
--- src/lib.rt:491:9
 waiting-requires : tie.Need-waiting-requires
 waiting-requires c κs = search needs
 
--- src/lib.rt:493:24
 store-in-requires : tie.Need-store-in-requires
 store-in-requires c κs = search needs
 
--- src/lib.rt:493:41
 plain-requires-4 : tie.Need-plain-requires-4
 plain-requires-4 c κs = search needs
 
--- src/lib.rt:493:9
 waiting-requires-2 : tie.Need-waiting-requires-2
 waiting-requires-2 c κs = search needs
 
--- src/lib.rt:495:24
 store-in-requires-2 : tie.Need-store-in-requires-2
 store-in-requires-2 c κs = search needs
 
--- src/lib.rt:495:41
 plain-requires-5 : tie.Need-plain-requires-5
 plain-requires-5 c κs = search needs
 
--- src/lib.rt:495:41
 with-alphabet-requires : tie.Need-with-alphabet-requires
 with-alphabet-requires c κs = search needs
 
--- src/lib.rt:495:9
 waiting-requires-3 : tie.Need-waiting-requires-3
 waiting-requires-3 c κs = search needs
 
--- src/lib.rt:497:21
 class-of-requires : tie.Need-class-of-requires
 class-of-requires c κs = search needs
 
--- src/lib.rt:497:9
 last-requires : tie.Need-last-requires
 last-requires c κs = search needs
 
--- src/lib.rt:481:1
 returns : tie.Need-returns
 unfolding readShort
 returns c = let o = c .before .before .before .args .octet in simp (bits-7-6 o (omega arith), eq-eqb (o / 64) 0 (omega arith), c .general .ensures, c .before .plain .ensures)
 
--- src/lib.rt:481:1
 returns-2 : tie.Need-returns-2
 unfolding readShort
 returns-2 c = let o = c .before .before .before .before .before .args .octet in simp (bits-7-6 o (omega arith), ne-eqb (o / 64) 0 (omega arith), eq-eqb (o / 64) 1 (omega arith), c .general2 .ensures, c .before .with-deletion .ensures, c .before .before .plain2 .ensures)
 
--- src/lib.rt:481:1
 returns-3 : tie.Need-returns-3
 unfolding readShort
 returns-3 c = let o = c .before .before .before .before .args .octet in simp (bits-7-6 o (omega arith), ne-eqb (o / 64) 0 (omega arith), ne-eqb (o / 64) 1 (omega arith), eq-eqb (o / 64) 2 (omega arith), c .unknown .ensures)
 
--- src/lib.rt:481:1
 returns-4 : tie.Need-returns-4
 unfolding readShort
 returns-4 c = let o = c .before .before .before .before .before .before .before .args .octet in simp (bits-7-6 o (omega arith), ne-eqb (o / 64) 0 (omega arith), ne-eqb (o / 64) 1 (omega arith), ne-eqb (o / 64) 2 (omega arith), bits-7-4 o (omega arith), eq-eqb (o / 16) 12 (omega arith), c .waiting .ensures, c .before .plain3 .ensures, c .before .before .discard-in .ensures)
 
--- src/lib.rt:481:1
 returns-5 : tie.Need-returns-5
 unfolding readShort
 returns-5 c = let o = c .before .before .before .before .before .before .before .before .args .octet in simp (bits-7-6 o (omega arith), ne-eqb (o / 64) 0 (omega arith), ne-eqb (o / 64) 1 (omega arith), ne-eqb (o / 64) 2 (omega arith), bits-7-4 o (omega arith), ne-eqb (o / 16) 12 (omega arith), eq-eqb (o / 16) 13 (omega arith), c .waiting2 .ensures, c .before .plain4 .ensures, c .before .before .store-in .ensures)
 
--- src/lib.rt:481:1
 returns-6 : tie.Need-returns-6
 unfolding readShort
 returns-6 c = let o = c .before .before .before .before .before .before .before .before .before .before .args .octet in simp (bits-7-6 o (omega arith), ne-eqb (o / 64) 0 (omega arith), ne-eqb (o / 64) 1 (omega arith), ne-eqb (o / 64) 2 (omega arith), bits-7-4 o (omega arith), ne-eqb (o / 16) 12 (omega arith), ne-eqb (o / 16) 13 (omega arith), eq-eqb (o / 16) 14 (omega arith), c .waiting3 .ensures, c .before .with-alphabet .ensures, c .before .before .plain5 .ensures, c .before .before .before .store-in2 .ensures)
 
--- src/lib.rt:481:1
 returns-7 : tie.Need-returns-7
 unfolding readShort
 returns-7 c = let o = c .before .before .before .before .before .before .before .before .args .octet in simp (bits-7-6 o (omega arith), ne-eqb (o / 64) 0 (omega arith), ne-eqb (o / 64) 1 (omega arith), ne-eqb (o / 64) 2 (omega arith), bits-7-4 o (omega arith), ne-eqb (o / 16) 12 (omega arith), ne-eqb (o / 16) 13 (omega arith), ne-eqb (o / 16) 14 (omega arith), bits-1-0, c .last .ensures, c .before .class-of .ensures)

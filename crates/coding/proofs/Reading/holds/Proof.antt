@@ -1,58 +1,46 @@
+-- `Reading::holds` meets its contract: it tests what the rules test, in their order. Assumes nothing.
 use Rattle.coding.specs.Holding.{holdsText}
 use Rattle.words.specs.Judging.{verdict}
 use borrow.Author.Needs.{needs}
 use Rattle.coding.proofs.Reading.holds.Statement.{statement}
 use Rattle.coding.proofs.Reading.holds.Tie as tie
-use Rattle.coding.proofs.Reading.holds.Reads as reads
-use Rattle.coding.proofs.Reading.holds.Lts as lts
 
--- src/lib.rt:660:13
 returns : tie.Need-returns
 unfolding holdsText verdict
 returns c = simp (c .if1 .taken)
 
--- src/lib.rt:665:20
 enum-told : tie.Need-enum-told
 enum-told c = search needs
 
--- src/lib.rt:671:49
 enum-told-2 : tie.Need-enum-told-2
 enum-told-2 c = search needs
 
--- src/lib.rt:673:20
 enum-told-3 : tie.Need-enum-told-3
 enum-told-3 c = search needs
 
--- src/lib.rt:679:44
 enum-told-4 : tie.Need-enum-told-4
 enum-told-4 c = search needs
 
--- src/lib.rt:656:5
 returns-2 : tie.Need-returns-2
 unfolding holdsText verdict
 returns-2 c = simp (c .before .before .before .if1 .left, c .before .enum-told .given .1, c .if2 .taken)
 
--- src/lib.rt:656:5
 returns-3 : tie.Need-returns-3
 unfolding holdsText verdict
 returns-3 c = simp (c .before .before .before .if1 .left, c .before .enum-told .given .1, c .if2 .left)
 
--- src/lib.rt:656:5
 returns-4 : tie.Need-returns-4
 unfolding holdsText verdict
 returns-4 c = simp (c .before .before .if1 .left, c .enum-told2 .given .1)
 
--- src/lib.rt:656:5
 returns-5 : tie.Need-returns-5
 unfolding holdsText verdict
 returns-5 c = simp (c .before .before .before .if1 .left, c .before .enum-told3 .given .1, c .if3 .taken)
 
--- src/lib.rt:656:5
 returns-6 : tie.Need-returns-6
 unfolding holdsText verdict
 returns-6 c = simp (c .before .before .before .if1 .left, c .before .enum-told3 .given .1, c .if3 .left)
 
--- src/lib.rt:656:5
 returns-7 : tie.Need-returns-7
 unfolding holdsText verdict
 returns-7 c = simp (c .before .before .if1 .left, c .enum-told4 .given .1)

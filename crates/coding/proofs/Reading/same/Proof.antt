@@ -1,20 +1,15 @@
+-- `Reading::same` meets its contract: equal keys are equal fields. Assumes nothing.
 use Rattle.coding.proofs.Same.{same-key}
 use borrow.Author.Needs.{needs}
 use Rattle.coding.proofs.Reading.same.Statement.{statement}
 use Rattle.coding.proofs.Reading.same.Tie as tie
-use Rattle.coding.proofs.Reading.same.Reads as reads
-use Rattle.coding.proofs.Reading.same.Lts as lts
-use Rattle.coding.proofs.Reading.key.Reads as key-reads
 
--- src/lib.rt:566:9
 key-requires : tie.Need-key-requires
 key-requires c κs = search needs
 
--- src/lib.rt:566:23
 key-requires-2 : tie.Need-key-requires-2
 key-requires-2 c κs = search needs
 
--- src/lib.rt:563:5
 returns : tie.Need-returns
 returns c = simp (c .before .key .ensures, c .key2 .ensures, same-key)
 

@@ -1,3 +1,4 @@
+-- `Reading::write` meets its contract: the octet tried is the smallest that reads so, wherever one does. Assumes nothing.
 use Rattle.coding.specs.Inner.{checkedOctet}
 use Rattle.coding.specs.OctetRead.{readShort, readPage}
 use Rattle.coding.specs.declared.Reading.{Reading}
@@ -5,99 +6,71 @@ use Prim.Native.Nat.{ℕ, _%_}
 use Rattle.coding.proofs.Smallest.{write-reserved, write-old, write-short, write-broadcast, write-ussd}
 use Rattle.coding.specs.OctetWritten.{octetWrites}
 use Rattle.words.specs.declared.Service.{Service}
-use mathlib.Core.Path.{_≡_, ap, sym, _∙_}
+use mathlib.Core.Path.{ap, sym, _∙_}
 use borrow.Author.Needs.{needs}
 use Rattle.coding.proofs.Reading.write.Statement.{statement}
 use Rattle.coding.proofs.Reading.write.Tie as tie
-use Rattle.coding.proofs.Reading.write.Reads as reads
-use Rattle.coding.proofs.Reading.write.Lts as lts
-use Rattle.coding.proofs.Reading.checked.Reads as checked-reads
-use Rattle.coding.proofs.Reading.page_octet.Reads as page-octet-reads
-use Rattle.coding.proofs.Reading.short_octet.Reads as short-octet-reads
-use Rattle.coding.proofs.read_page.Reads as read-page-reads
-use Rattle.coding.proofs.read_short.Reads as read-short-reads
 
--- src/lib.rt:636:13
 returns : tie.Need-returns
 returns c = sym (write-reserved (c .before .args .service) (c .before .args .self) (c .if1 .taken))
 
--- src/lib.rt:640:30
 enum-told : tie.Need-enum-told
 enum-told c = search needs
 
--- src/lib.rt:640:30
 short-octet-requires : tie.Need-short-octet-requires
 short-octet-requires c κs = search needs
 
--- src/lib.rt:640:29
 cast-octet : tie.Need-cast-octet
 cast-octet c = search needs
 
--- src/lib.rt:641:37
 read-short-requires : tie.Need-read-short-requires
 read-short-requires c κs = search needs
 
--- src/lib.rt:641:17
 checked-requires : tie.Need-checked-requires
 checked-requires c κs = search needs
 
--- src/lib.rt:644:30
 enum-told-2 : tie.Need-enum-told-2
 enum-told-2 c = search needs
 
--- src/lib.rt:644:30
 page-octet-requires : tie.Need-page-octet-requires
 page-octet-requires c κs = search needs
 
--- src/lib.rt:644:29
 cast-octet-2 : tie.Need-cast-octet-2
 cast-octet-2 c = search needs
 
--- src/lib.rt:645:37
 read-page-requires : tie.Need-read-page-requires
 read-page-requires c κs = search needs
 
--- src/lib.rt:645:17
 checked-requires-2 : tie.Need-checked-requires-2
 checked-requires-2 c κs = search needs
 
--- src/lib.rt:648:30
 enum-told-3 : tie.Need-enum-told-3
 enum-told-3 c = search needs
 
--- src/lib.rt:648:30
 page-octet-requires-2 : tie.Need-page-octet-requires-2
 page-octet-requires-2 c κs = search needs
 
--- src/lib.rt:648:29
 cast-octet-3 : tie.Need-cast-octet-3
 cast-octet-3 c = search needs
 
--- src/lib.rt:649:37
 read-page-requires-2 : tie.Need-read-page-requires-2
 read-page-requires-2 c κs = search needs
 
--- src/lib.rt:649:17
 checked-requires-3 : tie.Need-checked-requires-3
 checked-requires-3 c κs = search needs
 
--- src/lib.rt:651:55
 enum-told-4 : tie.Need-enum-told-4
 enum-told-4 c = search needs
 
--- src/lib.rt:632:5
 returns-2 : tie.Need-returns-2
 returns-2 c = let r = c .before .before .before .before .before .before .args .self in c .checked .ensures ∙ ap (λ (b : Reading). checkedOctet r (c .before .before .short-octet .result % 256) b) (c .before .read-short .ensures) ∙ ap (λ (n : ℕ). checkedOctet r (n % 256) (readShort (n % 256))) (c .before .before .short-octet .ensures) ∙ sym (ap (λ (s : Service). octetWrites s r) (c .before .before .before .enum-told .given .1) ∙ write-short r (c .before .before .before .before .before .if1 .left))
 
--- src/lib.rt:632:5
 returns-3 : tie.Need-returns-3
 returns-3 c = let r = c .before .before .before .before .before .before .args .self in c .checked2 .ensures ∙ ap (λ (b : Reading). checkedOctet r (c .before .before .page-octet .result % 256) b) (c .before .read-page .ensures) ∙ ap (λ (n : ℕ). checkedOctet r (n % 256) (readPage (n % 256))) (c .before .before .page-octet .ensures) ∙ sym (ap (λ (s : Service). octetWrites s r) (c .before .before .before .enum-told2 .given .1) ∙ write-broadcast r (c .before .before .before .before .before .if1 .left))
 
--- src/lib.rt:632:5
 returns-4 : tie.Need-returns-4
 returns-4 c = let r = c .before .before .before .before .before .before .args .self in c .checked3 .ensures ∙ ap (λ (b : Reading). checkedOctet r (c .before .before .page-octet2 .result % 256) b) (c .before .read-page2 .ensures) ∙ ap (λ (n : ℕ). checkedOctet r (n % 256) (readPage (n % 256))) (c .before .before .page-octet2 .ensures) ∙ sym (ap (λ (s : Service). octetWrites s r) (c .before .before .before .enum-told3 .given .1) ∙ write-ussd r (c .before .before .before .before .before .if1 .left))
 
--- src/lib.rt:632:5
 returns-5 : tie.Need-returns-5
 returns-5 c = let r = c .before .before .before .args .self in sym (ap (λ (s : Service). octetWrites s r) (c .enum-told4 .given .1) ∙ write-old r)
 
