@@ -1,7 +1,7 @@
 pub mod Numbered
-pub mod OctetBits
+pub mod Keys
 pub mod Same
-pub mod Low
+pub mod Octets
 pub mod Old
 pub mod Smallest
 pub mod Theorems

@@ -1,6 +1,7 @@
 -- An old page reads as the unmentioned values where bits 3..0 are 0, and is refused elsewhere.
 -- Assumes nothing.
-use mathlib.Core.Path.{_≡_}
+use mathlib.Core.Path.{_≡_, ap, _∙_}
+use native.Mathlib.Nat.{div-one}
 use Prim.Native.Nat.{ℕ, _%_, _≤_, _<_}
 use borrow.Author.Tests.{lt-ltb, le-ltb}
 use Rattle.words.specs.Judging.{verdict}
@@ -9,7 +10,11 @@ use Rattle.words.specs.declared.Refusal.the-variants.{NoText}
 use Rattle.coding.specs.declared.OctetRead.the-variants.{Done, Refused}
 use Rattle.coding.specs.Readings.{unmentioned}
 use Rattle.coding.specs.OctetRead.{octetReads}
-use Rattle.coding.proofs.OctetBits.{bits-3-0}
+use Rattle.words.specs.Bits.{bitsOf}
+use Rattle.words.proofs.Bits.{bits-number}
+
+bits-3-0 : (o : ℕ) → bitsOf o 3 0 ≡ o % 16
+bits-3-0 o = bits-number o 3 0 ∙ ap (λ (x : ℕ). x % 16) (div-one o)
 
 pub old-refused : (o : ℕ) → 0 < o % 16 → octetReads OldPage o ≡ Refused NoText
 unfolding octetReads verdict

@@ -16,18 +16,12 @@ use Rattle.coding.proofs.Reading.plain.Kinds as plain-kinds
 use Rattle.coding.proofs.Reading.plain.Reads as plain-reads
 use Rattle.coding.proofs.Reading.with_alphabet.Kinds as with-alphabet-kinds
 use Rattle.coding.proofs.Reading.with_alphabet.Reads as with-alphabet-reads
-use Rattle.coding.proofs.Reading.with_compressed.Kinds as with-compressed-kinds
-use Rattle.coding.proofs.Reading.with_compressed.Reads as with-compressed-reads
 use Rattle.coding.proofs.Reading.with_class.Kinds as with-class-kinds
 use Rattle.coding.proofs.Reading.with_class.Reads as with-class-reads
 use Rattle.coding.proofs.Reading.with_language.Kinds as with-language-kinds
 use Rattle.coding.proofs.Reading.with_language.Reads as with-language-reads
-use Rattle.coding.proofs.Reading.with_deletion.Kinds as with-deletion-kinds
-use Rattle.coding.proofs.Reading.with_deletion.Reads as with-deletion-reads
 use Rattle.coding.proofs.Reading.with_notice.Kinds as with-notice-kinds
 use Rattle.coding.proofs.Reading.with_notice.Reads as with-notice-reads
-use Rattle.coding.proofs.Reading.with_prefix.Kinds as with-prefix-kinds
-use Rattle.coding.proofs.Reading.with_prefix.Reads as with-prefix-reads
 use Rattle.coding.proofs.Reading.same.Kinds as same-kinds
 use Rattle.coding.proofs.Reading.same.Reads as same-reads
 use Rattle.coding.proofs.Reading.write.Kinds as write-kinds
@@ -58,23 +52,14 @@ plain-unique κs a x y u v p q = p ∙ sym q
 pub with-alphabet-unique : OneAnswer with-alphabet-kinds.ps with-alphabet-kinds.r with-alphabet-reads.Post
 with-alphabet-unique κs a x y u v p q = p ∙ sym q
 
-pub with-compressed-unique : OneAnswer with-compressed-kinds.ps with-compressed-kinds.r with-compressed-reads.Post
-with-compressed-unique κs a x y u v p q = p ∙ sym q
-
 pub with-class-unique : OneAnswer with-class-kinds.ps with-class-kinds.r with-class-reads.Post
 with-class-unique κs a x y u v p q = p ∙ sym q
 
 pub with-language-unique : OneAnswer with-language-kinds.ps with-language-kinds.r with-language-reads.Post
 with-language-unique κs a x y u v p q = p ∙ sym q
 
-pub with-deletion-unique : OneAnswer with-deletion-kinds.ps with-deletion-kinds.r with-deletion-reads.Post
-with-deletion-unique κs a x y u v p q = p ∙ sym q
-
 pub with-notice-unique : OneAnswer with-notice-kinds.ps with-notice-kinds.r with-notice-reads.Post
 with-notice-unique κs a x y u v p q = p ∙ sym q
-
-pub with-prefix-unique : OneAnswer with-prefix-kinds.ps with-prefix-kinds.r with-prefix-reads.Post
-with-prefix-unique κs a x y u v p q = p ∙ sym q
 
 pub same-unique : OneAnswer same-kinds.ps same-kinds.r same-reads.Post
 same-unique κs a x y u v p q = p ∙ sym q

@@ -4,11 +4,11 @@
 use mathlib.Core.Path.{_≡_, refl, ap, _∙_, sym, subst}
 use mathlib.Core.Bool.{Bool, true, false, cond}
 use Prim.Native.Nat.{ℕ, _≤_, _<_}
-use native.Mathlib.Nat.{mod-lt, zero-add}
+use native.Mathlib.Nat.{zero-add}
 use native.Mathlib.Omega.{arith}
 use native.Mathlib.Decide.{decLe}
 use borrow.Author.Tests.{ne-eqb}
-use lib.Dec.{T, leb, leb→le, lit<}
+use lib.Dec.{T, eqb, leb, leb→le}
 use lib.ListN.{getD}
 use Rattle.words.specs.Bits.{bitOf, bitsFrom, bitsOf}
 use Rattle.words.specs.Lists.{firstPlace, numbersFrom}
@@ -22,19 +22,20 @@ use Rattle.coding.specs.declared.Reading.{Reading}
 use Rattle.coding.specs.declared.OctetWritten.the-variants.{Done, Refused}
 use Rattle.coding.specs.OctetRead.{classIn, discardIn, storeIn, generalReading, noticeReading, lastReading, readShort, readPage, readUnder}
 use Rattle.coding.specs.OctetWritten.{sameReading, isOldPage, smallest, writeRules, octetWrites}
-use Rattle.coding.specs.Inner.{generalOctet, shortCandidate, pageCandidate, checkedOctet}
-use Rattle.coding.proofs.Same.{same-sound}
+use Rattle.coding.specs.Inner.{keyOf, shortKey, pageKey, generalTry, shortTry, pageTry, checkedOctet}
+use Rattle.coding.proofs.Same.{same-sound, same-key}
+use Rattle.coding.proofs.Octets.{short-key-is, page-key-is}
 
 -- octet o is reserved, or what is tried for its reading is no larger and reads the same
 abbrev good : (ℕ → Reading) → (Reading → ℕ) → ℕ → Bool
 good read tried o = cond (read o .reserved) true (both (leb (tried (read o)) o) (sameReading (read (tried (read o))) (read o)))
 
-short-good : T (everyBelow (good readShort shortCandidate) 256)
-unfolding readShort generalReading noticeReading lastReading classIn discardIn storeIn bitsOf bitsFrom bitOf generalOctet
+short-good : T (everyBelow (good readShort (λ (r : Reading). shortTry (keyOf r))) 256)
+unfolding readShort generalReading noticeReading lastReading classIn discardIn storeIn bitsOf bitsFrom bitOf keyOf shortTry generalTry
 short-good = tt
 
-page-good : T (everyBelow (good readPage pageCandidate) 256)
-unfolding readPage generalReading lastReading classIn bitsOf bitsFrom bitOf generalOctet
+page-good : T (everyBelow (good readPage (λ (r : Reading). pageTry (keyOf r))) 256)
+unfolding readPage generalReading lastReading classIn bitsOf bitsFrom bitOf keyOf pageTry generalTry
 page-good = tt
 
 -- the place of the first octet that reads as r
@@ -115,21 +116,23 @@ pub write-none : (s : Service) (r : Reading) → isOldPage s ≡ false → r .re
 unfolding octetWrites writeRules verdict
 write-none s r new plain e = simp (new, plain, e)
 
--- writing gives the octet tried, if it reads as r
-by-try : (s : Service) (tried : Reading → ℕ) → isOldPage s ≡ false → T (everyBelow (good (readUnder s) tried) 256) → (r : Reading) → r .reserved ≡ false → tried r < 256
-    → octetWrites s r ≡ checkedOctet r (tried r) (readUnder s (tried r))
-unfolding smallest
-by-try s tried new all r plain l = go (sameReading (readUnder s (tried r)) r) refl
-  where
-    go : (b : Bool) → sameReading (readUnder s (tried r)) r ≡ b → octetWrites s r ≡ cond b (Done (tried r)) (Refused Unwritable)
-    go true e = write-found s r (tried r) new plain (found-tried (readUnder s) tried all r plain l (subst T (sym e) tt)) l
-    go false e = write-none s r new plain (found-none (readUnder s) tried all r plain (λ h. subst T e h))
+-- writing gives the octet tried, if it reads back: what the code does with the key of r
+module _ (s : Service) (key try : ℕ → ℕ) (new : isOldPage s ≡ false) (keyed : (o : ℕ) → o < 256 → key o ≡ keyOf (readUnder s o))
+    (all : T (everyBelow (good (readUnder s) (λ (r : Reading). try (keyOf r))) 256))
+    (r : Reading) (plain : r .reserved ≡ false) (l : try (keyOf r) < 256) where
+  by-try : octetWrites s r ≡ checkedOctet (keyOf r) (try (keyOf r)) (key (try (keyOf r)))
+  unfolding smallest
+  by-try = go (eqb (key (try (keyOf r))) (keyOf r)) (ap (λ (k : ℕ). eqb k (keyOf r)) (keyed (try (keyOf r)) l) ∙ same-key (readUnder s (try (keyOf r))) r)
+    where
+      go : (b : Bool) → b ≡ sameReading (readUnder s (try (keyOf r))) r → octetWrites s r ≡ cond b (Done (try (keyOf r))) (Refused Unwritable)
+      go true e = write-found s r (try (keyOf r)) new plain (found-tried (readUnder s) (λ (r : Reading). try (keyOf r)) all r plain l (subst T e tt)) l
+      go false e = write-none s r new plain (found-none (readUnder s) (λ (r : Reading). try (keyOf r)) all r plain (λ h. subst T (sym e) h))
 
-pub write-short : (r : Reading) → r .reserved ≡ false → octetWrites ShortMessage r ≡ checkedOctet r (shortCandidate r) (readShort (shortCandidate r))
-write-short r plain = by-try ShortMessage shortCandidate refl short-good r plain (mod-lt _ (lit< tt))
+pub write-short : (r : Reading) → r .reserved ≡ false → shortTry (keyOf r) < 256 → octetWrites ShortMessage r ≡ checkedOctet (keyOf r) (shortTry (keyOf r)) (shortKey (shortTry (keyOf r)))
+write-short = by-try ShortMessage shortKey shortTry refl short-key-is short-good
 
-pub write-broadcast : (r : Reading) → r .reserved ≡ false → octetWrites Broadcast r ≡ checkedOctet r (pageCandidate r) (readPage (pageCandidate r))
-write-broadcast r plain = by-try Broadcast pageCandidate refl page-good r plain (mod-lt _ (lit< tt))
+pub write-broadcast : (r : Reading) → r .reserved ≡ false → pageTry (keyOf r) < 256 → octetWrites Broadcast r ≡ checkedOctet (keyOf r) (pageTry (keyOf r)) (pageKey (pageTry (keyOf r)))
+write-broadcast = by-try Broadcast pageKey pageTry refl page-key-is page-good
 
-pub write-ussd : (r : Reading) → r .reserved ≡ false → octetWrites Ussd r ≡ checkedOctet r (pageCandidate r) (readPage (pageCandidate r))
-write-ussd r plain = by-try Ussd pageCandidate refl page-good r plain (mod-lt _ (lit< tt))
+pub write-ussd : (r : Reading) → r .reserved ≡ false → pageTry (keyOf r) < 256 → octetWrites Ussd r ≡ checkedOctet (keyOf r) (pageTry (keyOf r)) (pageKey (pageTry (keyOf r)))
+write-ussd = by-try Ussd pageKey pageTry refl page-key-is page-good

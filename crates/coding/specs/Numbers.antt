@@ -1,8 +1,10 @@
 -- A number for each value of a reading's fields, no two values of a field the same. They compare readings here, and name the values in C.
 -- Own rule: the numbers are ours; languages 0 to 15 are those of bits 3..0. Cited by the number methods. Assumes nothing.
 --   alphabetNo, classNo, languageNo, kindNo, noticeNo, flagNo == the number of a value
+--   alphabets, classes, languages, kinds                      == the values in the order of their numbers
 use Prim.Native.Nat.{ℕ, _+_, _*_}
 use mathlib.Core.Bool.{Bool, true, false}
+use mathlib.Core.List.{List, [], _∷_}
 use Rattle.coding.specs.declared.Alphabet.{Alphabet}
 use Rattle.coding.specs.declared.Alphabet.the-variants.{SevenBit, EightBit, Ucs2, Wap}
 use Rattle.coding.specs.declared.Class.{Class}
@@ -20,6 +22,9 @@ alphabetNo EightBit = 1
 alphabetNo Ucs2 = 2
 alphabetNo Wap = 3
 
+abbrev pub alphabets : List Alphabet
+alphabets = SevenBit ∷ EightBit ∷ Ucs2 ∷ Wap ∷ []
+
 abbrev pub classNo : Class → ℕ
 classNo Unset = 0
 classNo Class0 = 1
@@ -28,6 +33,9 @@ classNo Class2 = 3
 classNo Class3 = 4
 classNo User1 = 5
 classNo User2 = 6
+
+abbrev pub classes : List Class
+classes = Unset ∷ Class0 ∷ Class1 ∷ Class2 ∷ Class3 ∷ User1 ∷ User2 ∷ []
 
 abbrev pub languageNo : Language → ℕ
 languageNo German = 0
@@ -48,18 +56,24 @@ languageNo Polish = 14
 languageNo Unspecified = 15
 languageNo Czech = 16
 
+abbrev pub languages : List Language
+languages = German ∷ English ∷ Italian ∷ French ∷ Spanish ∷ Dutch ∷ Swedish ∷ Danish ∷ Portuguese ∷ Finnish ∷ Norwegian ∷ Greek ∷ Turkish ∷ Hungarian ∷ Polish ∷ Unspecified ∷ Czech ∷ []
+
 abbrev pub kindNo : Kind → ℕ
 kindNo Voicemail = 0
 kindNo Fax = 1
 kindNo Mail = 2
 kindNo Other = 3
 
+abbrev pub kinds : List Kind
+kinds = Voicemail ∷ Fax ∷ Mail ∷ Other ∷ []
+
 abbrev pub flagNo : Bool → ℕ
 flagNo false = 0
 flagNo true = 1
 
--- nothing is 0; discard is 4 to 11 and store 12 to 19: not active first, then by kind
+-- nothing is 0; discard and store are the octets of groups 1100 and 1101 less B0 (hexadecimal): 16 to 27 and 32 to 43
 abbrev pub noticeNo : Notice → ℕ
 noticeNo Nothing = 0
-noticeNo (Discard active kind) = 4 + 4 * flagNo active + kindNo kind
-noticeNo (Store active kind) = 12 + 4 * flagNo active + kindNo kind
+noticeNo (Discard active kind) = 16 + 8 * flagNo active + kindNo kind
+noticeNo (Store active kind) = 32 + 8 * flagNo active + kindNo kind

@@ -1,12 +1,12 @@
 // The data coding octet: read under a service, and written as the smallest octet that reads so.
 ghost use mathlib.Core.Path.{_≡_};
-ghost use Prim.Native.Nat.{_<_};
-ghost use Rattle.coding.specs.Readings.{unmentioned, reservedReading, withAlphabet, withCompressed, withClass, withLanguage, withDeletion, withNotice, withPrefix};
-ghost use Rattle.coding.specs.OctetRead.{alphabetOf, classOf, userClassOf, kindOf, languageOf, classIn, discardIn, storeIn, generalReading, noticeReading, lastReading, readShort, readPage, octetReads};
+ghost use Prim.Native.Nat.{_<_, _/_, _%_};
+ghost use Rattle.coding.specs.Readings.{unmentioned, withAlphabet, withClass, withLanguage, withNotice};
+ghost use Rattle.coding.specs.OctetRead.{octetReads};
 ghost use Rattle.coding.specs.Numbers.{alphabetNo, classNo, languageNo, kindNo, noticeNo, flagNo};
 ghost use Rattle.coding.specs.OctetWritten.{sameReading, octetWrites};
 ghost use Rattle.coding.specs.Holding.{holdsText};
-ghost use Rattle.coding.specs.Inner.{keyOf, classBits, generalOctet, noticeOctet, pageOctet, checkedOctet};
+ghost use Rattle.coding.specs.Inner.{keyOf, noticeAt, readingOf, userClass, generalKey, noticeKey, lastKey, shortKey, pageKey, classBits, generalTry, shortTry, pageTry, checkedOctet};
 use words::Refusal;
 use words::Service;
 
@@ -122,21 +122,6 @@ impl Class {
             Class::User2 => 6,
         }
     }
-
-    // What it adds to an octet of group 01xx.
-    fn bits(self) -> u8
-        ensures { λ r. ⌜ r ≡ classBits self ⌝ }
-    {
-        match self {
-            Class::Unset => 0,
-            Class::Class0 => 0x10,
-            Class::Class1 => 0x11,
-            Class::Class2 => 0x12,
-            Class::Class3 => 0x13,
-            Class::User1 => 0xb1,
-            Class::User2 => 0xb2,
-        }
-    }
 }
 
 impl Language {
@@ -187,17 +172,17 @@ fn flag(b: bool) -> u8
 }
 
 impl Notice {
-    // Its number: 0 for none, 4 to 11 for discard, 12 to 19 for store.
+    // Its number: 0 for none, else the octet of group 1100 or 1101 that says so, less B0 (hexadecimal).
     pub fn number(self) -> u16
         ensures answer { λ r. ⌜ r ≡ noticeNo self ⌝ }
     {
         match self {
             Notice::Nothing => 0,
             Notice::Discard { active, kind } => {
-                4 + 4 * (flag(active) as u16) + (kind.number() as u16)
+                16 + 8 * (flag(active) as u16) + (kind.number() as u16)
             }
             Notice::Store { active, kind } => {
-                12 + 4 * (flag(active) as u16) + (kind.number() as u16)
+                32 + 8 * (flag(active) as u16) + (kind.number() as u16)
             }
         }
     }
@@ -220,22 +205,6 @@ impl Reading {
         }
     }
 
-    // How a reserved coding reads.
-    fn unknown() -> Self
-        ensures { λ r. ⌜ r ≡ reservedReading ⌝ }
-    {
-        Self {
-            alphabet: Alphabet::SevenBit,
-            compressed: false,
-            class: Class::Unset,
-            language: Language::Unspecified,
-            deletion: false,
-            notice: Notice::Nothing,
-            prefix: false,
-            reserved: true,
-        }
-    }
-
     // A copy in another alphabet.
     pub fn with_alphabet(self, alphabet: Alphabet) -> Self
         ensures answer { λ r. ⌜ r ≡ withAlphabet alphabet self ⌝ }
@@ -253,14 +222,6 @@ impl Reading {
             prefix: self.prefix,
             reserved: self.reserved,
         }
-    }
-
-    // A copy that is compressed, or not.
-    pub fn with_compressed(mut self, compressed: bool) -> Self
-        ensures answer { λ r. ⌜ r ≡ withCompressed compressed self ⌝ }
-    {
-        self.compressed = compressed;
-        self
     }
 
     // A copy with another class.
@@ -301,14 +262,6 @@ impl Reading {
         }
     }
 
-    // A copy with the deletion mark, or without.
-    pub fn with_deletion(mut self, deletion: bool) -> Self
-        ensures answer { λ r. ⌜ r ≡ withDeletion deletion self ⌝ }
-    {
-        self.deletion = deletion;
-        self
-    }
-
     // A copy with another waiting notice.
     pub fn with_notice(self, notice: Notice) -> Self
         ensures answer { λ r. ⌜ r ≡ withNotice notice self ⌝ }
@@ -327,61 +280,77 @@ impl Reading {
             reserved: self.reserved,
         }
     }
+}
 
-    // A copy with the prefix mark, or without.
-    pub fn with_prefix(mut self, prefix: bool) -> Self
-        ensures answer { λ r. ⌜ r ≡ withPrefix prefix self ⌝ }
+// A reading's key is one number for all its fields: alphabet, then 4 times class, and so on upwards.
+const CLASS: u32 = 4;
+
+const LANGUAGE: u32 = 32;
+
+const NOTICE: u32 = 1024;
+
+const COMPRESSED: u32 = 65536;
+
+const DELETION: u32 = 131072;
+
+const PREFIX: u32 = 262144;
+
+const RESERVED: u32 = 524288;
+
+// The keys of what a rule does not mention, and of a reserved coding.
+const PLAIN: u32 = 480;
+
+const UNKNOWN: u32 = 524768;
+
+const UCS2: u32 = 2;
+
+const WAP: u32 = 3;
+
+impl Reading {
+    // The sum cannot wrap, whatever the fields' numbers.
+    fn key(self) -> u32
+        ensures { λ r. ⌜ r ≡ keyOf self ⌝ }
     {
-        self.prefix = prefix;
-        self
+        let alphabet = self.alphabet;
+        let class = self.class;
+        let language = self.language;
+        let notice = self.notice;
+        (alphabet.number() as u32)
+            + CLASS * (class.number() as u32)
+            + LANGUAGE * (language.number() as u32)
+            + NOTICE * (notice.number() as u32)
+            + COMPRESSED * (flag(self.compressed) as u32)
+            + DELETION * (flag(self.deletion) as u32)
+            + PREFIX * (flag(self.prefix) as u32)
+            + RESERVED * (flag(self.reserved) as u32)
+    }
+
+    // Whether two readings are alike in every field.
+    pub fn same(self, other: Reading) -> bool
+        ensures answer { λ r. ⌜ r ≡ sameReading self other ⌝ }
+    {
+        self.key() == other.key()
     }
 }
 
-const ALPHABETS: [Alphabet; 3] = [Alphabet::SevenBit, Alphabet::EightBit, Alphabet::Ucs2];
+const ALPHABETS: [Alphabet; 4] = [
+    Alphabet::SevenBit,
+    Alphabet::EightBit,
+    Alphabet::Ucs2,
+    Alphabet::Wap,
+];
 
-fn alphabet_of(k: u8) -> Alphabet
-    requires { ⌜ k < 3 ⌝ }
-    ensures { λ r. ⌜ r ≡ alphabetOf k ⌝ }
-{
-    let i = k as usize;
-    let all = ALPHABETS;
-    all[i]
-}
+const CLASSES: [Class; 7] = [
+    Class::Unset,
+    Class::Class0,
+    Class::Class1,
+    Class::Class2,
+    Class::Class3,
+    Class::User1,
+    Class::User2,
+];
 
-const CLASSES: [Class; 4] = [Class::Class0, Class::Class1, Class::Class2, Class::Class3];
-
-fn class_of(k: u8) -> Class
-    requires { ⌜ k < 4 ⌝ }
-    ensures { λ r. ⌜ r ≡ classOf k ⌝ }
-{
-    let i = k as usize;
-    let all = CLASSES;
-    all[i]
-}
-
-const USER_CLASSES: [Class; 4] = [Class::Unset, Class::User1, Class::User2, Class::Class3];
-
-fn user_class_of(k: u8) -> Class
-    requires { ⌜ k < 4 ⌝ }
-    ensures { λ r. ⌜ r ≡ userClassOf k ⌝ }
-{
-    let i = k as usize;
-    let all = USER_CLASSES;
-    all[i]
-}
-
-const KINDS: [Kind; 4] = [Kind::Voicemail, Kind::Fax, Kind::Mail, Kind::Other];
-
-fn kind_of(k: u8) -> Kind
-    requires { ⌜ k < 4 ⌝ }
-    ensures { λ r. ⌜ r ≡ kindOf k ⌝ }
-{
-    let i = k as usize;
-    let all = KINDS;
-    all[i]
-}
-
-const LANGUAGES: [Language; 16] = [
+const LANGUAGES: [Language; 17] = [
     Language::German,
     Language::English,
     Language::Italian,
@@ -398,136 +367,151 @@ const LANGUAGES: [Language; 16] = [
     Language::Hungarian,
     Language::Polish,
     Language::Unspecified,
+    Language::Czech,
 ];
 
-fn language_of(k: u8) -> Language
-    requires { ⌜ k < 16 ⌝ }
-    ensures { λ r. ⌜ r ≡ languageOf k ⌝ }
+const KINDS: [Kind; 4] = [Kind::Voicemail, Kind::Fax, Kind::Mail, Kind::Other];
+
+fn notice_at(n: u32) -> Notice
+    ensures { λ r. ⌜ r ≡ noticeAt n ⌝ }
 {
-    let i = k as usize;
-    let all = LANGUAGES;
-    all[i]
+    if n == 0 {
+        return Notice::Nothing;
+    }
+    let i = (n % 4) as usize;
+    let kinds = KINDS;
+    let kind = kinds[i];
+    let active = n / 8 % 2 == 1;
+    if n < 32 {
+        Notice::Discard {
+            active: active,
+            kind: kind,
+        }
+    } else {
+        Notice::Store {
+            active: active,
+            kind: kind,
+        }
+    }
 }
 
-// The class of groups 00xx and 01xx.
-fn class_in(octet: u8) -> Class
-    ensures { λ r. ⌜ r ≡ classIn octet ⌝ }
+// The reading of a key.
+fn reading_of(key: u32) -> Reading
+    requires { ⌜ (key / 4 % 8 < 7) × (key / 32 % 32 < 17) ⌝ }
+    ensures { λ r. ⌜ r ≡ readingOf key ⌝ }
 {
-    if octet / 16 % 2 == 1 {
-        class_of(octet % 4)
-    } else {
-        Class::Unset
+    let alphabet_no = (key % 4) as usize;
+    let alphabets = ALPHABETS;
+    let alphabet = alphabets[alphabet_no];
+    let class_no = (key / 4 % 8) as usize;
+    let classes = CLASSES;
+    let class = classes[class_no];
+    let language_no = (key / 32 % 32) as usize;
+    let languages = LANGUAGES;
+    let language = languages[language_no];
+    let notice = notice_at(key / 1024 % 64);
+    Reading {
+        alphabet: alphabet,
+        compressed: key / 65536 % 2 == 1,
+        class: class,
+        language: language,
+        deletion: key / 131072 % 2 == 1,
+        notice: notice,
+        prefix: key / 262144 % 2 == 1,
+        reserved: key / 524288 % 2 == 1,
     }
 }
 
 // Groups 00xx and 01xx, with what they do not mention as in base.
-fn general(octet: u8, base: Reading) -> Reading
-    ensures { λ r. ⌜ r ≡ generalReading octet base ⌝ }
+fn general_key(octet: u8, base: u32) -> u32
+    requires { ⌜ base < 524288 ⌝ }
+    ensures { λ r. ⌜ r ≡ generalKey octet base ⌝ }
 {
-    let code = octet / 4 % 4;
-    if code == 3 {
-        return Reading::unknown();
+    let alphabet = (octet / 4 % 4) as u32;
+    if alphabet == 3 {
+        return UNKNOWN;
     }
-    let class = class_in(octet);
-    let alphabet = alphabet_of(code);
-    base.with_class(class)
-        .with_alphabet(alphabet)
-        .with_compressed(octet / 32 % 2 == 1)
+    let classless = base + alphabet + COMPRESSED * ((octet / 32 % 2) as u32);
+    if octet / 16 % 2 == 1 {
+        classless + CLASS * ((octet % 4 + 1) as u32)
+    } else {
+        classless
+    }
 }
 
-// Groups 1100, 1101 and 1110, with what they do not mention as in base.
-fn waiting(octet: u8, notice: Notice, base: Reading) -> Reading
-    ensures { λ r. ⌜ r ≡ noticeReading octet notice base ⌝ }
+// Groups 1100, 1101 and 1110, with the notice of that number.
+fn notice_key(octet: u8, notice: u8, base: u32) -> u32
+    requires { ⌜ base < 524288 ⌝ }
+    ensures { λ r. ⌜ r ≡ noticeKey octet notice base ⌝ }
 {
     if octet / 4 % 2 == 1 {
-        return Reading::unknown();
+        return UNKNOWN;
     }
-    base.with_notice(notice)
+    base + NOTICE * (notice as u32)
 }
 
-fn discard_in(octet: u8) -> Notice
-    ensures { λ r. ⌜ r ≡ discardIn octet ⌝ }
-{
-    let kind = kind_of(octet % 4);
-    Notice::Discard {
-        active: octet / 8 % 2 == 1,
-        kind: kind,
-    }
-}
-
-fn store_in(octet: u8) -> Notice
-    ensures { λ r. ⌜ r ≡ storeIn octet ⌝ }
-{
-    let kind = kind_of(octet % 4);
-    Notice::Store {
-        active: octet / 8 % 2 == 1,
-        kind: kind,
-    }
-}
-
-// Group 1111.
-fn last(octet: u8, class: Class) -> Reading
-    ensures { λ r. ⌜ r ≡ lastReading octet class ⌝ }
+// Group 1111, with the class of that number.
+fn last_key(octet: u8, class: u8) -> u32
+    ensures { λ r. ⌜ r ≡ lastKey octet class ⌝ }
 {
     if octet / 8 % 2 == 1 {
-        return Reading::unknown();
+        return UNKNOWN;
     }
-    let base = Reading::plain().with_class(class);
-    if octet / 4 % 2 == 1 {
-        base.with_alphabet(Alphabet::EightBit)
-    } else {
-        base
-    }
+    PLAIN + ((octet / 4 % 2) as u32) + CLASS * (class as u32)
 }
 
-fn read_short(octet: u8) -> Reading
-    ensures { λ r. ⌜ r ≡ readShort octet ⌝ }
+// How an octet reads in a short message.
+fn short_key(octet: u8) -> u32
+    ensures { λ r. ⌜ r ≡ shortKey octet ⌝ }
 {
     if octet < 0x40 {
-        general(octet, Reading::plain())
+        general_key(octet, PLAIN)
     } else if octet < 0x80 {
-        general(octet, Reading::plain().with_deletion(true))
+        general_key(octet, PLAIN + DELETION)
     } else if octet < 0xc0 {
-        Reading::unknown()
-    } else if octet < 0xd0 {
-        waiting(octet, discard_in(octet), Reading::plain())
+        UNKNOWN
     } else if octet < 0xe0 {
-        waiting(octet, store_in(octet), Reading::plain())
+        notice_key(octet, octet - 0xb0, PLAIN)
     } else if octet < 0xf0 {
-        waiting(
-            octet,
-            store_in(octet),
-            Reading::plain().with_alphabet(Alphabet::Ucs2),
-        )
+        notice_key(octet, octet - 0xc0, PLAIN + UCS2)
     } else {
-        last(octet, class_of(octet % 4))
+        last_key(octet, octet % 4 + 1)
     }
 }
 
-fn read_page(octet: u8) -> Reading
-    ensures { λ r. ⌜ r ≡ readPage octet ⌝ }
+// The numbers of no class, user-defined 1 and 2, class 3.
+const USER_CLASSES: [u8; 4] = [0, 5, 6, 4];
+
+// How an octet reads in a broadcast page and in USSD.
+fn page_key(octet: u8) -> u32
+    ensures { λ r. ⌜ r ≡ pageKey octet ⌝ }
 {
     if octet < 0x10 {
-        Reading::plain().with_language(language_of(octet))
+        LANGUAGE * (octet as u32)
     } else if octet == 0x10 {
-        Reading::plain().with_prefix(true)
+        PLAIN + PREFIX
     } else if octet == 0x11 {
-        Reading::plain()
-            .with_alphabet(Alphabet::Ucs2)
-            .with_prefix(true)
+        PLAIN + UCS2 + PREFIX
     } else if octet == 0x20 {
-        Reading::plain().with_language(Language::Czech)
+        LANGUAGE * 16
     } else if octet < 0x40 {
-        Reading::unknown()
+        UNKNOWN
     } else if octet < 0x80 {
-        general(octet, Reading::plain())
+        general_key(octet, PLAIN)
     } else if octet < 0xe0 {
-        Reading::unknown()
+        UNKNOWN
     } else if octet < 0xf0 {
-        Reading::plain().with_alphabet(Alphabet::Wap)
+        PLAIN + WAP
     } else {
-        last(octet, user_class_of(octet % 4))
+        last_key(octet, user_class(octet))
     }
+}
+
+fn user_class(octet: u8) -> u8
+    ensures { λ r. ⌜ r ≡ userClass octet ⌝ }
+{
+    let i = (octet % 4) as usize;
+    USER_CLASSES[i]
 }
 
 // What an octet says under a service. Refuses 2 for an old page whose bits 3..0 are not 0.
@@ -535,9 +519,9 @@ pub fn read_octet(service: Service, octet: u8) -> OctetRead
     ensures answer { λ r. ⌜ r ≡ octetReads service octet ⌝ }
 {
     match service {
-        Service::ShortMessage => OctetRead::Done(read_short(octet)),
-        Service::Broadcast => OctetRead::Done(read_page(octet)),
-        Service::Ussd => OctetRead::Done(read_page(octet)),
+        Service::ShortMessage => OctetRead::Done(reading_of(short_key(octet))),
+        Service::Broadcast => OctetRead::Done(reading_of(page_key(octet))),
+        Service::Ussd => OctetRead::Done(reading_of(page_key(octet))),
         Service::OldPage => {
             if 0 < octet % 16 {
                 OctetRead::Refused(Refusal::NoText)
@@ -548,94 +532,73 @@ pub fn read_octet(service: Service, octet: u8) -> OctetRead
     }
 }
 
+// What a class adds to an octet of group 01xx, by its number; a user-defined class lifts it to group 1111.
+const CLASS_BITS: [u8; 8] = [0, 0x10, 0x11, 0x12, 0x13, 0xb1, 0xb2, 0];
+
+fn class_bits(key: u32) -> u8
+    ensures { λ r. ⌜ r ≡ classBits key ⌝ }
+{
+    let class = (key / 4 % 8) as usize;
+    CLASS_BITS[class]
+}
+
+// Bits 5..0 of the octet of groups 00xx and 01xx with that key.
+fn general_try(key: u32) -> u32
+    ensures { λ r. ⌜ (r ≡ generalTry key) × (r < 512) ⌝ }
+{
+    32 * (key / 65536 % 2) + 4 * (key % 4) + (class_bits(key) as u32)
+}
+
+// The one octet of a short message to try for a key.
+fn short_try(key: u32) -> u8
+    ensures { λ r. ⌜ r ≡ shortTry key ⌝ }
+{
+    let notice = key / 1024 % 64;
+    if notice == 0 {
+        ((64 * (key / 131072 % 2) + general_try(key)) % 256) as u8
+    } else {
+        ((0xb0 + notice + 8 * (key % 4)) % 256) as u8
+    }
+}
+
+// The one octet of a broadcast page or USSD to try for a key.
+fn page_try(key: u32) -> u8
+    ensures { λ r. ⌜ r ≡ pageTry key ⌝ }
+{
+    let language = key / 32 % 32;
+    if language < 15 {
+        return language as u8;
+    }
+    if 15 < language {
+        return 0x20;
+    }
+    let alphabet = key % 4;
+    if key / 262144 % 2 == 1 {
+        return (0x10 + alphabet / 2) as u8;
+    }
+    if alphabet == 3 {
+        return 0xe0;
+    }
+    let general = general_try(key);
+    if general == 0 {
+        0x0f
+    } else {
+        ((0x40 + general) % 256) as u8
+    }
+}
+
+// The octet tried, if it reads back as the key.
+fn checked(key: u32, octet: u8, back: u32) -> OctetWritten
+    ensures { λ r. ⌜ r ≡ checkedOctet key octet back ⌝ }
+{
+    if back == key {
+        OctetWritten::Done(octet)
+    } else {
+        OctetWritten::Refused(Refusal::Unwritable)
+    }
+}
+
 impl Reading {
-    // One number for all fields. The sums cannot wrap, whatever the fields' numbers.
-    fn key(self) -> u32
-        ensures { λ r. ⌜ r ≡ keyOf self ⌝ }
-    {
-        let alphabet = self.alphabet;
-        let class = self.class;
-        let language = self.language;
-        let notice = self.notice;
-        let reserved = flag(self.reserved) as u32;
-        let prefix = reserved * 2 + (flag(self.prefix) as u32);
-        let deletion = prefix * 2 + (flag(self.deletion) as u32);
-        let compressed = deletion * 2 + (flag(self.compressed) as u32);
-        let notices = compressed * 32 + (notice.number() as u32);
-        let languages = notices * 32 + (language.number() as u32);
-        let classes = languages * 8 + (class.number() as u32);
-        classes * 4 + (alphabet.number() as u32)
-    }
-
-    // Whether two readings are alike in every field.
-    pub fn same(self, other: Reading) -> bool
-        ensures answer { λ r. ⌜ r ≡ sameReading self other ⌝ }
-    {
-        self.key() == other.key()
-    }
-
-    // Bits 5..0 of groups 00xx and 01xx.
-    fn general_octet(self) -> u16
-        ensures { λ r. ⌜ r ≡ generalOctet self ⌝ }
-    {
-        let alphabet = self.alphabet;
-        let class = self.class;
-        32 * (flag(self.compressed) as u16) + 4 * (alphabet.number() as u16) + (class.bits() as u16)
-    }
-
-    fn short_octet(self) -> u32
-        ensures { λ r. ⌜ r ≡ noticeOctet self (self .notice) ⌝ }
-    {
-        let alphabet = self.alphabet;
-        let notice = self.notice;
-        match notice {
-            Notice::Nothing => 64 * (flag(self.deletion) as u32) + (self.general_octet() as u32),
-            Notice::Discard { active, kind } => {
-                0xc0 + 8 * (flag(active) as u32) + (kind.number() as u32)
-            }
-            Notice::Store { active, kind } => {
-                0xd0
-                    + 8 * (alphabet.number() as u32)
-                    + 8 * (flag(active) as u32)
-                    + (kind.number() as u32)
-            }
-        }
-    }
-
-    fn page_octet(self) -> u32
-        ensures { λ r. ⌜ r ≡ pageOctet self ⌝ }
-    {
-        let language = self.language;
-        let language_no = language.number() as u32;
-        if language_no < 15 {
-            return language_no;
-        }
-        if 15 < language_no {
-            return 0x20;
-        }
-        let alphabet = self.alphabet;
-        let alphabet_no = alphabet.number() as u32;
-        if self.prefix {
-            return 0x10 + alphabet_no / 2;
-        }
-        if alphabet_no == 3 {
-            return 0xe0;
-        }
-        let general = self.general_octet() as u32;
-        if general == 0 { 0x0f } else { 0x40 + general }
-    }
-
-    // The octet, if it reads as self.
-    fn checked(self, octet: u8, back: Reading) -> OctetWritten
-        ensures { λ r. ⌜ r ≡ checkedOctet self octet back ⌝ }
-    {
-        if back.same(self) {
-            OctetWritten::Done(octet)
-        } else {
-            OctetWritten::Refused(Refusal::Unwritable)
-        }
-    }
-
     // The smallest octet that reads as self under the service: it builds the one octet that can, and reads it back.
     // Refuses 8 for an old page, for a reserved reading, and where no octet reads so.
     pub fn write(self, service: Service) -> OctetWritten
@@ -644,18 +607,19 @@ impl Reading {
         if self.reserved {
             return OctetWritten::Refused(Refusal::Unwritable);
         }
+        let key = self.key();
         match service {
             Service::ShortMessage => {
-                let octet = (self.short_octet() % 256) as u8;
-                self.checked(octet, read_short(octet))
+                let octet = short_try(key);
+                checked(key, octet, short_key(octet))
             }
             Service::Broadcast => {
-                let octet = (self.page_octet() % 256) as u8;
-                self.checked(octet, read_page(octet))
+                let octet = page_try(key);
+                checked(key, octet, page_key(octet))
             }
             Service::Ussd => {
-                let octet = (self.page_octet() % 256) as u8;
-                self.checked(octet, read_page(octet))
+                let octet = page_try(key);
+                checked(key, octet, page_key(octet))
             }
             Service::OldPage => OctetWritten::Refused(Refusal::Unwritable),
         }

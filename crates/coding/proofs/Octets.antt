@@ -1,0 +1,40 @@
+-- The key that the code computes for an octet is that of the octet's reading: one computed test over the 256 octets of each table.
+-- Assumes nothing.
+use mathlib.Core.Path.{_≡_, ap, _∙_, subst, sym}
+use mathlib.Core.Bool.{Bool}
+use Prim.Native.Nat.{ℕ, _/_, _%_, _<_}
+use lib.Dec.{T, eqb, eqb→eq}
+use Rattle.words.specs.Bits.{bitOf, bitsFrom, bitsOf}
+use Rattle.words.proofs.Tests.{everyBelow, every-below}
+use Rattle.coding.specs.declared.Reading.{Reading}
+use Rattle.coding.specs.OctetRead.{classIn, discardIn, storeIn, generalReading, noticeReading, lastReading, readShort, readPage}
+use Rattle.coding.specs.Inner.{keyOf, readingOf, generalKey, noticeKey, lastKey, shortKey, pageKey}
+use Rattle.coding.proofs.Numbered.{class-named, language-named}
+use Rattle.coding.proofs.Keys.{key-digits, key-reading}
+
+abbrev keyed : (ℕ → ℕ) → (ℕ → Reading) → ℕ → Bool
+keyed key read o = eqb (key o) (keyOf (read o))
+
+short-keyed : T (everyBelow (keyed shortKey readShort) 256)
+unfolding shortKey generalKey noticeKey lastKey keyOf readShort generalReading noticeReading lastReading classIn discardIn storeIn bitsOf bitsFrom bitOf
+short-keyed = tt
+
+page-keyed : T (everyBelow (keyed pageKey readPage) 256)
+unfolding pageKey generalKey lastKey keyOf readPage generalReading lastReading classIn bitsOf bitsFrom bitOf
+page-keyed = tt
+
+pub short-key-is : (o : ℕ) → o < 256 → shortKey o ≡ keyOf (readShort o)
+short-key-is o h = eqb→eq _ _ (every-below (keyed shortKey readShort) 256 short-keyed o h)
+
+pub page-key-is : (o : ℕ) → o < 256 → pageKey o ≡ keyOf (readPage o)
+page-key-is o h = eqb→eq _ _ (every-below (keyed pageKey readPage) 256 page-keyed o h)
+
+-- the key of a reading can be read back
+pub key-valid : (r : Reading) (k : ℕ) → k ≡ keyOf r → (k / 4 % 8 < 7) × (k / 32 % 32 < 17)
+key-valid r k e = (
+  subst (λ (n : ℕ). n < 7) (sym (ap (λ (n : ℕ). n / 4 % 8) e ∙ key-digits r .class)) (class-named (r .class) .below),
+  subst (λ (n : ℕ). n < 17) (sym (ap (λ (n : ℕ). n / 32 % 32) e ∙ key-digits r .language)) (language-named (r .language) .below),
+)
+
+pub key-back : (r : Reading) (k : ℕ) → k ≡ keyOf r → readingOf k ≡ r
+key-back r k e = ap readingOf e ∙ key-reading r
