@@ -1,0 +1,18 @@
+use borrow.Author.Needs.{needs}
+use lib.Dec.{T}
+use mathlib.Core.Path.{refl}
+use Rattle.words.specs.Lists.{firstPlace}
+use Rattle.alphabet.specs.Tables.{mainTable, extension, among, beside}
+use Rattle.alphabet.specs.Writing.{listedAs}
+use Rattle.alphabet.specs.Reading.{mainUnit, afterEscape}
+use Rattle.alphabet.specs.Inner.{listing, RightFrom, shown, RightUnits}
+use Rattle.alphabet.proofs.Entries.{unitRight, units-right}
+use Rattle.alphabet.proofs.tables.unit_table.Statement.{statement}
+use Rattle.alphabet.proofs.tables.unit_table.Tie as tie
+
+returns : tie.Need-returns
+unfolding unitRight shown mainUnit among beside firstPlace mainTable
+returns c = units-right _ tt refl
+
+pub unit-table-spec : {M : Type 1} → statement M
+unit-table-spec = tie.close (tie.spec returns)
