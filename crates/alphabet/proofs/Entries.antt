@@ -11,13 +11,13 @@ use lib.Dec.{T, eqb, ltb, eqb→eq}
 use lib.ListN.{length, getD}
 use Rattle.words.specs.Lists.{firstPlace}
 use borrow.Author.Tests.{lt-ltb, le-ltb, ne-eqb}
-use Rattle.words.proofs.Places.{place-none}
 use Rattle.words.proofs.Tests.{everyEntry, every-entry}
 use Rattle.alphabet.specs.declared.Listed.{Listed}
 use Rattle.alphabet.specs.declared.Listed.the-variants.{Unlisted, Main, Extension}
 use Rattle.alphabet.specs.Tables.{mainTable, extension, codes, units, among, beside}
 use Rattle.alphabet.specs.Writing.{listedAs}
 use Rattle.alphabet.specs.Reading.{mainUnit, afterEscape}
+use Rattle.alphabet.proofs.Among.{among-not}
 use Rattle.alphabet.specs.Inner.{listing, RightFrom, shown, RightUnits}
 
 abbrev pub same : Listed → Listed → Bool
@@ -65,12 +65,7 @@ inside u = cond (ltb u 0x100) true (cond (ltb u 0x393) false (cond (ltb u 0x3aa)
 
 -- a number that fails a test is in no list whose every number passes it
 absent : (test : ℕ → Bool) (xs : List ℕ) → T (everyEntry (λ k. test) 0 xs) → (x : ℕ) → test x ≡ false → among xs x ≡ false
-unfolding among
-absent test xs t x out =
-    le-ltb _ _
-    (subst (λ (n : ℕ). length xs ≤ n)
-    (sym (place-none (λ y. eqb y x) xs (λ k h. ne-eqb (getD xs k 0) x (λ e. subst T (ap test e ∙ out) (every-entry (λ k. test) xs t k h)))))
-    (le-refl (length xs)))
+absent test xs t x out = among-not xs x (λ k h e. subst T (ap test e ∙ out) (every-entry (λ k. test) xs t k h))
 
 main-inside : T (everyEntry (λ k. inside) 0 (units mainTable))
 unfolding inside mainTable

@@ -6,3 +6,4 @@ pub mod Places
 pub mod Laid
 pub mod Below
 pub mod Filling
+pub mod Ends
