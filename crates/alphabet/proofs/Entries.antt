@@ -4,19 +4,19 @@ use mathlib.Core.Path.{_≡_, refl, ap, _∙_, sym, subst}
 use mathlib.Core.Bool.{Bool, true, false, cond}
 use mathlib.Core.List.{List, [], _∷_}
 use Prim.{Unit}
-use Prim.Native.Nat.{ℕ, zero, suc, _+_, _-_, _<_, _≤_}
-use native.Mathlib.Nat.{zero-add, le-refl}
+use Prim.Native.Nat.{ℕ, suc, _+_, _-_, _<_, _≤_}
+use native.Mathlib.Nat.{le-refl}
 use native.Mathlib.Omega.{arith}
 use lib.Dec.{T, eqb, ltb, eqb→eq}
-use lib.ListN.{length, getD}
+use lib.ListN.{length}
 use Rattle.words.specs.Lists.{firstPlace}
 use borrow.Author.Tests.{lt-ltb, le-ltb, ne-eqb}
 use Rattle.words.proofs.Tests.{everyEntry, every-entry}
 use Rattle.alphabet.specs.declared.Listed.{Listed}
 use Rattle.alphabet.specs.declared.Listed.the-variants.{Unlisted, Main, Extension}
-use Rattle.alphabet.specs.Tables.{mainTable, extension, codes, units, among, beside}
+use Rattle.alphabet.specs.Tables.{mainTable, extension, codes, units, among}
 use Rattle.alphabet.specs.Writing.{listedAs}
-use Rattle.alphabet.specs.Reading.{mainUnit, afterEscape}
+use Rattle.alphabet.specs.Reading.{afterEscape}
 use Rattle.alphabet.proofs.Among.{among-not}
 use Rattle.alphabet.specs.Inner.{listing, RightFrom, shown, RightUnits}
 

@@ -12,7 +12,7 @@
 --   septets-cr-iff       == the septets end in CR exactly where the text does
 --   no-escape-end        == no septets end in an escape
 --   no-escape-cr-end     == no septets end in an escape and a CR
-use mathlib.Core.Path.{_≡_, refl, ap, _∙_, sym, subst}
+use mathlib.Core.Path.{_≡_, refl, ap, _∙_, sym}
 use mathlib.Core.Bool.{Bool, true, false}
 use mathlib.Core.List.{List, [], _∷_, _++_, append-assoc, append-nil}
 use mathlib.Core.Logic.{_↔_}

@@ -1,34 +1,27 @@
+-- `alphabet::text_to_septets` meets its contract: what `measure` tells decides between 6, 7 and success, and `lay_septets` lays the septets.
+-- Assumes nothing.
 use mathlib.Core.Path.{_≡_, _∙_, sym}
+use mathlib.Core.Bool.{false}
 use Prim.Native.Nat.{_≤_, _<_}
 use native.Mathlib.Omega.{arith}
-use mathlib.Core.Bool.{false}
 use lib.Dec.{ltb}
 use lib.ListN.{length}
+use borrow.Author.Needs.{needs}
 use Rattle.words.proofs.Filling.{fills-short, fills-done}
 use Rattle.alphabet.specs.Writing.{firstUnlisted, septetsOf, septetsRules, septetsAnswers, septetsLeaves}
 use Rattle.alphabet.proofs.Units.{measured-septets, refused-unlisted}
-use borrow.Author.Needs.{needs}
 use Rattle.alphabet.proofs.text_to_septets.Statement.{statement}
 use Rattle.alphabet.proofs.text_to_septets.Tie as tie
-use Rattle.alphabet.proofs.text_to_septets.Reads as reads
-use Rattle.alphabet.proofs.text_to_septets.Lts as lts
-use Rattle.alphabet.proofs.tables.low_table.Reads as low-table-reads
-use Rattle.alphabet.proofs.writing.lay_septets.Reads as lay-septets-reads
-use Rattle.alphabet.proofs.writing.measure.Reads as measure-reads
 
--- src/lib.rt:54:15
 low-table-requires : tie.Need-low-table-requires
 low-table-requires c κs = search needs
 
--- src/lib.rt:55:9
 measure-requires : tie.Need-measure-requires
 measure-requires c κs = search needs
 
--- src/lib.rt:57:27
 enum-known-length : tie.Need-enum-known-length
 enum-known-length c = search needs
 
--- src/lib.rt:58:27
 enum-known-length-2 : tie.Need-enum-known-length-2
 enum-known-length-2 c = search needs
 
@@ -45,22 +38,18 @@ returns c =
     let few : length (a .out .now) < length (septetsOf (a .text .now)) = omega (arith, counted (c .before .before) .1) in
     fills-short _ _ (septetsOf (a .text .now)) (a .out .now) (counted (c .before .before) .0) few
 
--- src/lib.rt:62:13
 lay-septets-requires : tie.Need-lay-septets-requires
 lay-septets-requires c κs = (c .before .before .before .before .before .before .before .before .low-table .ensures, omega (arith, c .before .before .if1 .left, counted (c .before .before .before .before) .1))
 
--- src/lib.rt:50:1
 returns-2 : tie.Need-returns-2
 unfolding septetsRules septetsAnswers septetsLeaves
 returns-2 c =
     let a = c .before .before .before .before .before .before .before .before .args in
     refused-unlisted (a .text .now) (a .out .now) _ (sym (c .before .length .given .1) ∙ c .before .before .before .measure .ensures)
 
--- src/lib.rt:50:1
 same-length : tie.Need-same-length
 same-length c = search needs
 
--- src/lib.rt:50:1
 returns-3 : tie.Need-returns-3
 unfolding septetsRules septetsAnswers septetsLeaves
 returns-3 c =

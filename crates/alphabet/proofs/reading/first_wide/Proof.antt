@@ -1,3 +1,5 @@
+-- `alphabet::reading::first_wide` meets its contract. The invariant: no septet that was passed is 128 or more.
+-- Assumes nothing.
 use mathlib.Core.Path.{sym}
 use Prim.Native.Nat.{_-_, _≤_}
 use native.Mathlib.Omega.{arith}
@@ -8,8 +10,6 @@ use borrow.Author.Tests.{le-leb, lt-leb}
 use Rattle.words.proofs.Places.{Passed, passed-none, passed-more, passed-here, passed-over}
 use Rattle.alphabet.proofs.reading.first_wide.Statement.{statement}
 use Rattle.alphabet.proofs.reading.first_wide.Tie as tie
-use Rattle.alphabet.proofs.reading.first_wide.Reads as reads
-use Rattle.alphabet.proofs.reading.first_wide.Lts as lts
 
 abbrev Inv-loop : tie.InvT-loop
 Inv-loop septets i₀ i = (i ≤ length septets) × Passed (λ s. leb 128 s) septets i
@@ -17,29 +17,23 @@ Inv-loop septets i₀ i = (i ≤ length septets) × Passed (λ s. leb 128 s) sep
 abbrev μ-loop : tie.MeasureT-loop
 μ-loop septets i₀ i = length septets - i
 
--- src/reading.rt:17:5
 loop-holds : tie.Need-loop-holds Inv-loop μ-loop
 loop-holds c = (omega arith, passed-none (λ s. leb 128 s) (c .args .septets .now))
 
--- src/reading.rt:18:12
 shared-slice-read-if1 : tie.Need-shared-slice-read-if1 Inv-loop μ-loop
 shared-slice-read-if1 c = search needs
 
--- src/reading.rt:19:13
 returns : tie.Need-returns Inv-loop μ-loop
 returns c =
     let l = c .before .before in
     sym (passed-here (λ s. leb 128 s) (l .before .before .args .septets .now) (l .before .loop .i) (l .before .loop .inv .1) (l .loop-test .taken) (le-leb _ _ (c .if1 .taken)))
 
--- src/reading.rt:21:9
 add-i : tie.Need-add-i Inv-loop μ-loop
 add-i c = search needs
 
--- src/reading.rt:17:5
 loop-less : tie.Need-loop-less Inv-loop μ-loop
 loop-less c = search needs
 
--- src/reading.rt:17:5
 loop-again : tie.Need-loop-again Inv-loop μ-loop
 loop-again c =
     let l = c .before .before in (
@@ -47,7 +41,6 @@ loop-again c =
       passed-more (λ s. leb 128 s) (l .before .before .args .septets .now) (l .before .loop .i) (l .before .loop .inv .1) (l .loop-test .taken) (lt-leb _ _ (c .if1 .left)),
     )
 
--- src/reading.rt:13:1
 returns-2 : tie.Need-returns-2 Inv-loop μ-loop
 returns-2 c = sym (passed-over (λ s. leb 128 s) (c .before .before .args .septets .now) (c .before .loop .i) (c .before .loop .inv .1) (c .loop-test .left))
 

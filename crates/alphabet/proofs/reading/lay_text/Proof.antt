@@ -1,17 +1,15 @@
-use mathlib.Core.Path.{_≡_, ap}
-use Prim.Native.Nat.{_+_, _-_, _≤_}
+-- `alphabet::reading::lay_text` meets its contract. The invariant: the front holds the units read so far, and what is left is the text of the septets not yet read.
+-- Assumes nothing.
+use mathlib.Core.Path.{ap}
+use Prim.Native.Nat.{_-_, _≤_}
 use native.Mathlib.Omega.{arith}
 use lib.ListN.{length, drop}
-use borrow.Author.Needs.{needs, scaled-fits}
+use borrow.Author.Needs.{needs}
 use Rattle.words.proofs.Laid.{Laying, lay-none, lay-room, lay-one, lay-left, lay-end, lay-count}
 use Rattle.alphabet.specs.Inner.{readAs}
 use Rattle.alphabet.proofs.Septets.{read-over}
 use Rattle.alphabet.proofs.reading.lay_text.Statement.{statement}
 use Rattle.alphabet.proofs.reading.lay_text.Tie as tie
-use Rattle.alphabet.proofs.reading.lay_text.Reads as reads
-use Rattle.alphabet.proofs.reading.lay_text.Lts as lts
-use Rattle.alphabet.proofs.reading.read_step.Reads as read-step-reads
-use Rattle.alphabet.proofs.tables.unit_table.Reads as unit-table-reads
 
 abbrev Inv-loop : tie.InvT-loop
 Inv-loop septets old out₀ units n₀ i₀ out n i = (i ≤ length septets) × (n ≤ i) × Laying out₀ (readAs old septets) (readAs old (drop i septets)) n out
@@ -19,38 +17,30 @@ Inv-loop septets old out₀ units n₀ i₀ out n i = (i ≤ length septets) × 
 abbrev μ-loop : tie.MeasureT-loop
 μ-loop septets old out₀ units n₀ i₀ out n i = length septets - i
 
--- src/reading.rt:86:17
 unit-table-requires : tie.Need-unit-table-requires Inv-loop μ-loop
 unit-table-requires c κs = search needs
 
--- src/reading.rt:89:5
 loop-holds : tie.Need-loop-holds Inv-loop μ-loop
 loop-holds c = (omega arith, omega arith, lay-none _ _)
 
--- src/reading.rt:90:13
 read-step-requires : tie.Need-read-step-requires Inv-loop μ-loop
 read-step-requires c κs = (c .before .before .before .unit-table .ensures, (c .before .loop-test .taken, c .before .before .before .before .before .before .pre .0))
 
--- src/reading.rt:91:9
 mul-out : tie.Need-mul-out Inv-loop μ-loop
 mul-out c =
     let start = c .before .before .before .before .before .before .before in
     let l = lay-left (c .before .before .before .loop .inv .2) (c .read-step .ensures .reads) in
     omega (arith, lay-room l (start .pre .1), l .long, start .good .1 .1 .0 .1)
 
--- src/reading.rt:91:9
 slice-write-out : tie.Need-slice-write-out Inv-loop μ-loop
 slice-write-out c = lay-room (lay-left (c .before .before .before .loop .inv .2) (c .read-step .ensures .reads)) (c .before .before .before .before .before .before .before .pre .1)
 
--- src/reading.rt:92:9
 add-n : tie.Need-add-n Inv-loop μ-loop
 add-n c = omega (arith, c .read-step .ensures .on, c .read-step .ensures .within)
 
--- src/reading.rt:89:5
 loop-less : tie.Need-loop-less Inv-loop μ-loop
 loop-less c = omega (arith, c .read-step .ensures .on, c .read-step .ensures .within)
 
--- src/reading.rt:89:5
 loop-again : tie.Need-loop-again Inv-loop μ-loop
 loop-again c = (
   c .read-step .ensures .within,
@@ -58,11 +48,9 @@ loop-again c = (
   lay-one (lay-left (c .before .before .before .loop .inv .2) (c .read-step .ensures .reads)) (c .before .before .before .before .before .before .before .pre .1),
 )
 
--- src/reading.rt:80:1
 same-length : tie.Need-same-length Inv-loop μ-loop
 same-length c = search needs
 
--- src/reading.rt:80:1
 returns : tie.Need-returns Inv-loop μ-loop
 returns c =
     let start = c .before .before .before .before .before in

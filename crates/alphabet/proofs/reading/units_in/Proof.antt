@@ -1,3 +1,5 @@
+-- `alphabet::reading::units_in` meets its contract. The invariant: the units counted and those still to be read are all of them.
+-- Assumes nothing.
 use mathlib.Core.Path.{_≡_, ap}
 use Prim.Native.Nat.{_+_, _-_, _≤_}
 use native.Mathlib.Omega.{arith}
@@ -7,10 +9,6 @@ use Rattle.alphabet.specs.Inner.{readAs}
 use Rattle.alphabet.proofs.Septets.{read-over}
 use Rattle.alphabet.proofs.reading.units_in.Statement.{statement}
 use Rattle.alphabet.proofs.reading.units_in.Tie as tie
-use Rattle.alphabet.proofs.reading.units_in.Reads as reads
-use Rattle.alphabet.proofs.reading.units_in.Lts as lts
-use Rattle.alphabet.proofs.reading.read_step.Reads as read-step-reads
-use Rattle.alphabet.proofs.tables.unit_table.Reads as unit-table-reads
 
 abbrev Inv-loop : tie.InvT-loop
 Inv-loop septets old units n₀ i₀ n i = (i ≤ length septets) × (n ≤ i) × (n + length (readAs old (drop i septets)) ≡ length (readAs old septets))
@@ -18,31 +16,24 @@ Inv-loop septets old units n₀ i₀ n i = (i ≤ length septets) × (n ≤ i) �
 abbrev μ-loop : tie.MeasureT-loop
 μ-loop septets old units n₀ i₀ n i = length septets - i
 
--- src/reading.rt:68:17
 unit-table-requires : tie.Need-unit-table-requires Inv-loop μ-loop
 unit-table-requires c κs = search needs
 
--- src/reading.rt:71:5
 loop-holds : tie.Need-loop-holds Inv-loop μ-loop
 loop-holds c = search needs
 
--- src/reading.rt:72:13
 read-step-requires : tie.Need-read-step-requires Inv-loop μ-loop
 read-step-requires c κs = (c .before .before .before .unit-table .ensures, (c .before .loop-test .taken, c .before .before .before .before .before .pre))
 
--- src/reading.rt:73:9
 add-n : tie.Need-add-n Inv-loop μ-loop
 add-n c = omega (arith, c .read-step .ensures .on, c .read-step .ensures .within)
 
--- src/reading.rt:71:5
 loop-less : tie.Need-loop-less Inv-loop μ-loop
 loop-less c = omega (arith, c .read-step .ensures .on, c .read-step .ensures .within)
 
--- src/reading.rt:71:5
 loop-again : tie.Need-loop-again Inv-loop μ-loop
 loop-again c = omega (arith, c .read-step .ensures .on, c .read-step .ensures .within, ap length (c .read-step .ensures .reads))
 
--- src/reading.rt:64:1
 returns : tie.Need-returns Inv-loop μ-loop
 returns c = omega (arith, ap length (read-over (c .before .before .before .before .args .old) (c .before .before .before .before .args .septets .now) (c .before .loop .i) (c .loop-test .left)))
 

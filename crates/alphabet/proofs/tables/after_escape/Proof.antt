@@ -1,70 +1,57 @@
+-- `alphabet::tables::after_escape` meets its contract: each arm is a row of the extension, and the rest is no listed code.
+-- Assumes nothing.
 use mathlib.Core.Path.{sym, ap, _∙_}
+use borrow.Author.Needs.{needs}
 use Rattle.words.specs.Lists.{firstPlace}
 use Rattle.alphabet.specs.Tables.{extension, among, beside}
 use Rattle.alphabet.specs.Reading.{afterEscape}
 use Rattle.alphabet.proofs.Entries.{other-shown}
-use borrow.Author.Needs.{needs}
 use Rattle.alphabet.proofs.tables.after_escape.Statement.{statement}
 use Rattle.alphabet.proofs.tables.after_escape.Tie as tie
-use Rattle.alphabet.proofs.tables.after_escape.Reads as reads
-use Rattle.alphabet.proofs.tables.after_escape.Lts as lts
-use Rattle.alphabet.proofs.tables.shown_unit.Reads as shown-unit-reads
 
--- src/tables.rt:490:14
 shown-unit-requires : tie.Need-shown-unit-requires
 shown-unit-requires c κs = search needs
 
--- src/tables.rt:474:1
 returns : tie.Need-returns
 unfolding afterEscape among beside firstPlace extension
 returns c = sym (ap afterEscape (c .match .keys1))
 
--- src/tables.rt:474:1
 returns-2 : tie.Need-returns-2
 unfolding afterEscape among beside firstPlace extension
 returns-2 c = sym (ap afterEscape (c .match .keys2))
 
--- src/tables.rt:474:1
 returns-3 : tie.Need-returns-3
 unfolding afterEscape among beside firstPlace extension
 returns-3 c = sym (ap afterEscape (c .match .keys3))
 
--- src/tables.rt:474:1
 returns-4 : tie.Need-returns-4
 unfolding afterEscape among beside firstPlace extension
 returns-4 c = sym (ap afterEscape (c .match .keys4))
 
--- src/tables.rt:474:1
 returns-5 : tie.Need-returns-5
 unfolding afterEscape among beside firstPlace extension
 returns-5 c = sym (ap afterEscape (c .match .keys5))
 
--- src/tables.rt:474:1
 returns-6 : tie.Need-returns-6
 unfolding afterEscape among beside firstPlace extension
 returns-6 c = sym (ap afterEscape (c .match .keys6))
 
--- src/tables.rt:474:1
 returns-7 : tie.Need-returns-7
 unfolding afterEscape among beside firstPlace extension
 returns-7 c = sym (ap afterEscape (c .match .keys7))
 
--- src/tables.rt:474:1
 returns-8 : tie.Need-returns-8
 unfolding afterEscape among beside firstPlace extension
 returns-8 c = sym (ap afterEscape (c .match .keys8))
 
--- src/tables.rt:474:1
 returns-9 : tie.Need-returns-9
 unfolding afterEscape among beside firstPlace extension
 returns-9 c = sym (ap afterEscape (c .match .keys9))
 
--- src/tables.rt:474:1
 returns-10 : tie.Need-returns-10
 unfolding afterEscape among beside firstPlace extension
 returns-10 c = sym (ap afterEscape (c .match .keys10))
 
--- src/tables.rt:474:1
 returns-11 : tie.Need-returns-11
 unfolding extension
 returns-11 c = c .shown-unit .ensures ∙ other-shown (c .before .before .args .code) (c .before .match .rest)

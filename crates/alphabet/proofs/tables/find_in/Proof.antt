@@ -1,62 +1,50 @@
+-- `alphabet::tables::find_in` meets its contract: within the ranges of the tables by their entries, outside them because no printed row lies there.
+-- Assumes nothing.
+use mathlib.Core.Path.{_≡_, sym, ap, _∙_}
 use Prim.Native.Nat.{ℕ, _+_, _-_}
 use native.Mathlib.Nat.{zero-add}
 use native.Mathlib.Omega.{arith}
-use mathlib.Core.Path.{_≡_, sym, ap, _∙_}
+use borrow.Author.Needs.{needs}
 use Rattle.words.specs.Lists.{firstPlace}
 use Rattle.alphabet.specs.Tables.{mainTable, extension, among, beside}
 use Rattle.alphabet.specs.Writing.{listedAs}
 use Rattle.alphabet.proofs.Entries.{between-unlisted, above-unlisted}
-use borrow.Author.Needs.{needs}
 use Rattle.alphabet.proofs.tables.find_in.Statement.{statement}
 use Rattle.alphabet.proofs.tables.find_in.Tie as tie
-use Rattle.alphabet.proofs.tables.find_in.Reads as reads
-use Rattle.alphabet.proofs.tables.find_in.Lts as lts
-use Rattle.alphabet.proofs.tables.greek_table.Reads as greek-table-reads
-use Rattle.alphabet.proofs.tables.listed.Reads as listed-reads
 
--- src/tables.rt:470:23
 element-copy-out-listed : tie.Need-element-copy-out-listed
 element-copy-out-listed c = search needs
 
--- src/tables.rt:470:9
 listed-requires : tie.Need-listed-requires
 listed-requires c κs = search needs
 
--- src/tables.rt:470:9
 returns : tie.Need-returns
 returns c =
     let a = c .before .before .before .args in
     c .listed .ensures ∙ c .before .before .before .pre .at (a .unit) (c .before .before .if1 .taken) ∙ ap listedAs (zero-add (a .unit))
 
--- src/tables.rt:473:9
 returns-2 : tie.Need-returns-2
 returns-2 c = between-unlisted (c .before .before .args .unit) (omega arith) (omega arith)
 
--- src/tables.rt:476:21
 greek-table-requires : tie.Need-greek-table-requires
 greek-table-requires c κs = search needs
 
--- src/tables.rt:477:23
 array-read-listed : tie.Need-array-read-listed
 array-read-listed c = search needs
 
--- src/tables.rt:477:9
 listed-requires-2 : tie.Need-listed-requires-2
 listed-requires-2 c κs = search needs
 
--- src/tables.rt:477:9
 returns-3 : tie.Need-returns-3
 returns-3 c =
     let u : ℕ = c .before .before .before .before .before .args .unit in
     let e : 0x393 + (u - 0x393) ≡ u = omega arith in
     c .listed2 .ensures ∙ c .before .greek-table .ensures .at (u - 0x393) (omega arith) ∙ ap listedAs e
 
--- src/tables.rt:480:9
 returns-4 : tie.Need-returns-4
 unfolding listedAs among beside firstPlace mainTable extension
 returns-4 c = sym (ap listedAs (c .if4 .taken))
 
--- src/tables.rt:464:1
 returns-5 : tie.Need-returns-5
 returns-5 c = above-unlisted (c .before .before .before .before .args .unit) (omega arith) (c .if4 .left)
 

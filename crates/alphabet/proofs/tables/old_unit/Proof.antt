@@ -1,24 +1,20 @@
+-- `alphabet::tables::old_unit` meets its contract: 11 by its test, 1B because a space is shown for it.
+-- Assumes nothing.
 use mathlib.Core.Path.{sym, _∙_}
 use borrow.Author.Tests.{eq-eqb, ne-eqb}
+use borrow.Author.Needs.{needs}
 use Rattle.alphabet.specs.Reading.{oldUnit}
 use Rattle.alphabet.specs.Inner.{shown}
-use borrow.Author.Needs.{needs}
 use Rattle.alphabet.proofs.tables.old_unit.Statement.{statement}
 use Rattle.alphabet.proofs.tables.old_unit.Tie as tie
-use Rattle.alphabet.proofs.tables.old_unit.Reads as reads
-use Rattle.alphabet.proofs.tables.old_unit.Lts as lts
-use Rattle.alphabet.proofs.tables.shown_unit.Reads as shown-unit-reads
 
--- src/tables.rt:501:9
 returns : tie.Need-returns
 unfolding oldUnit
 returns c = sym (simp (eq-eqb _ _ (c .if1 .taken)))
 
--- src/tables.rt:503:5
 shown-unit-requires : tie.Need-shown-unit-requires
 shown-unit-requires c κs = search needs
 
--- src/tables.rt:495:1
 returns-2 : tie.Need-returns-2
 unfolding oldUnit shown
 returns-2 c = c .shown-unit .ensures ∙ sym (simp (ne-eqb _ _ (c .before .if1 .left)))

@@ -1,18 +1,15 @@
+-- `alphabet::tables::shown_unit` meets its contract: the entry at the code is right.
+-- Assumes nothing.
 use borrow.Author.Needs.{needs}
 use Rattle.alphabet.proofs.tables.shown_unit.Statement.{statement}
 use Rattle.alphabet.proofs.tables.shown_unit.Tie as tie
-use Rattle.alphabet.proofs.tables.shown_unit.Reads as reads
-use Rattle.alphabet.proofs.tables.shown_unit.Lts as lts
 
--- src/tables.rt:470:5
 mul-result : tie.Need-mul-result
 mul-result c = search needs
 
--- src/tables.rt:470:5
 element-copy-out-result : tie.Need-element-copy-out-result
 element-copy-out-result c = search needs
 
--- src/tables.rt:464:1
 returns : tie.Need-returns
 returns c = c .before .pre .0 .at (c .before .args .code) (c .before .pre .1)
 

@@ -1,3 +1,5 @@
+-- `alphabet::writing::lay_septets` meets its contract. The invariant: the front holds the septets of the units passed, and what is left is the septets of the units to come.
+-- Assumes nothing.
 use mathlib.Core.Path.{_≡_, _∙_, sym}
 use mathlib.Core.Logic.{⊎-elim}
 use mathlib.Core.List.{_++_}
@@ -12,9 +14,6 @@ use Rattle.alphabet.specs.Writing.{septetsFor, septetsOf}
 use Rattle.alphabet.proofs.Units.{lay-unit, septets-over}
 use Rattle.alphabet.proofs.writing.lay_septets.Statement.{statement}
 use Rattle.alphabet.proofs.writing.lay_septets.Tie as tie
-use Rattle.alphabet.proofs.writing.lay_septets.Reads as reads
-use Rattle.alphabet.proofs.writing.lay_septets.Lts as lts
-use Rattle.alphabet.proofs.tables.find_in.Reads as find-in-reads
 
 abbrev Inv-loop : tie.InvT-loop
 Inv-loop text low out₀ n₀ i₀ out n i = (i ≤ length text) × Laying out₀ (septetsOf text) (septetsOf (drop i text)) n out
@@ -22,19 +21,15 @@ Inv-loop text low out₀ n₀ i₀ out n i = (i ≤ length text) × Laying out�
 abbrev μ-loop : tie.MeasureT-loop
 μ-loop text low out₀ n₀ i₀ out n i = length text - i
 
--- src/writing.rt:45:5
 loop-holds : tie.Need-loop-holds Inv-loop μ-loop
 loop-holds c = (omega arith, lay-none _ _)
 
--- src/writing.rt:46:38
 mul-find-in : tie.Need-mul-find-in Inv-loop μ-loop
 mul-find-in c = search needs
 
--- src/writing.rt:46:38
 shared-slice-read-find-in : tie.Need-shared-slice-read-find-in Inv-loop μ-loop
 shared-slice-read-find-in c = search needs
 
--- src/writing.rt:46:13
 find-in-requires : tie.Need-find-in-requires Inv-loop μ-loop
 find-in-requires c κs = c .before .before .before .before .before .pre .0
 
@@ -47,47 +42,36 @@ next c l e = lay-unit (c .before .before .before .before .before .before .args .
 enum-told : tie.Need-enum-told Inv-loop μ-loop
 enum-told c = search needs
 
--- src/writing.rt:49:26
 enum-known-listed : tie.Need-enum-known-listed Inv-loop μ-loop
 enum-known-listed c = search needs
 
--- src/writing.rt:50:17
 slice-write-out : tie.Need-slice-write-out Inv-loop μ-loop
 slice-write-out c = lay-room (next (c .before .before .before) (Main _) (sym (c .before .listed .given .1))) (c .before .before .before .before .before .before .before .before .before .pre .1)
 
--- src/writing.rt:51:17
 add-n : tie.Need-add-n Inv-loop μ-loop
 add-n c = omega (arith, lay-room (next (c .before .before .before) (Main _) (sym (c .before .listed .given .1))) (c .before .before .before .before .before .before .before .before .before .pre .1), (next (c .before .before .before) (Main _) (sym (c .before .listed .given .1))) .long)
 
--- src/writing.rt:53:31
 enum-known-listed-2 : tie.Need-enum-known-listed-2 Inv-loop μ-loop
 enum-known-listed-2 c = search needs
 
--- src/writing.rt:54:17
 slice-write-out-2 : tie.Need-slice-write-out-2 Inv-loop μ-loop
 slice-write-out-2 c = lay-room (next (c .before .before .before) (Extension _) (sym (c .before .listed2 .given .1))) (c .before .before .before .before .before .before .before .before .before .pre .1)
 
--- src/writing.rt:55:21
 add-out : tie.Need-add-out Inv-loop μ-loop
 add-out c = omega (arith, lay-room (next (c .before .before .before) (Extension _) (sym (c .before .listed2 .given .1))) (c .before .before .before .before .before .before .before .before .before .pre .1), (next (c .before .before .before) (Extension _) (sym (c .before .listed2 .given .1))) .long)
 
--- src/writing.rt:55:17
 slice-write-out-3 : tie.Need-slice-write-out-3 Inv-loop μ-loop
 slice-write-out-3 c = lay-room (lay-one (next (c .before .before .before) (Extension _) (sym (c .before .listed2 .given .1))) (c .before .before .before .before .before .before .before .before .before .pre .1)) (c .before .before .before .before .before .before .before .before .before .pre .1)
 
--- src/writing.rt:56:17
 add-n-2 : tie.Need-add-n-2 Inv-loop μ-loop
 add-n-2 c = omega (arith, lay-count (next (c .before .before .before) (Extension _) (sym (c .before .listed2 .given .1))), (next (c .before .before .before) (Extension _) (sym (c .before .listed2 .given .1))) .long, (c .before .before .before .before .before .before .before .before .before .pre .1))
 
--- src/writing.rt:59:9
 add-i : tie.Need-add-i Inv-loop μ-loop
 add-i c = search needs
 
--- src/writing.rt:45:5
 loop-less : tie.Need-loop-less Inv-loop μ-loop
 loop-less c = search needs
 
--- src/writing.rt:45:5
 loop-again : tie.Need-loop-again Inv-loop μ-loop
 loop-again c =
     let fits = c .before .before .before .before .before .before .before .pre .1 in (
@@ -98,11 +82,9 @@ loop-again c =
           (c .match .came),
     )
 
--- src/writing.rt:38:1
 same-length : tie.Need-same-length Inv-loop μ-loop
 same-length c = search needs
 
--- src/writing.rt:38:1
 returns : tie.Need-returns Inv-loop μ-loop
 returns c = lay-end (c .before .loop .inv .1) (septets-over (c .before .before .before .before .args .text .now) (c .before .loop .i) (c .loop-test .left))
 

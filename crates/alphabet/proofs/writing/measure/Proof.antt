@@ -1,21 +1,20 @@
+-- `alphabet::writing::measure` meets its contract. The invariant: every unit passed is listed, and the septets counted and those of the units to come are all of them.
+-- Assumes nothing.
 use mathlib.Core.Path.{_≡_, refl, ap, _∙_, sym}
-use mathlib.Core.Bool.{true, false}
+use mathlib.Core.Bool.{false}
 use mathlib.Core.Logic.{⊎-elim}
-use Prim.Native.Nat.{ℕ, _+_, _*_, _-_, _≤_, _<_}
+use Prim.Native.Nat.{_+_, _*_, _-_, _≤_}
 use native.Mathlib.Omega.{arith}
 use lib.ListN.{length, drop, getD}
 use borrow.Author.Needs.{needs}
 use borrow.Author.Tests.{lt-ltb, le-ltb}
 use Rattle.words.proofs.Places.{Passed, passed-none, passed-more, passed-here, passed-over}
 use Rattle.alphabet.specs.declared.Listed.{Listed}
-use Rattle.alphabet.specs.declared.Listed.the-variants.{Unlisted, Main, Extension}
+use Rattle.alphabet.specs.declared.Listed.the-variants.{Main, Extension}
 use Rattle.alphabet.specs.Writing.{listedAs, isUnlisted, firstUnlisted, septetsFor, septetsOf, measured}
 use Rattle.alphabet.proofs.Units.{short, left-at, septets-over}
 use Rattle.alphabet.proofs.writing.measure.Statement.{statement}
 use Rattle.alphabet.proofs.writing.measure.Tie as tie
-use Rattle.alphabet.proofs.writing.measure.Reads as reads
-use Rattle.alphabet.proofs.writing.measure.Lts as lts
-use Rattle.alphabet.proofs.tables.find_in.Reads as find-in-reads
 
 abbrev Inv-loop : tie.InvT-loop
 Inv-loop text low n₀ i₀ n i =
@@ -24,27 +23,21 @@ Inv-loop text low n₀ i₀ n i =
 abbrev μ-loop : tie.MeasureT-loop
 μ-loop text low n₀ i₀ n i = length text - i
 
--- src/writing.rt:19:5
 loop-holds : tie.Need-loop-holds Inv-loop μ-loop
 loop-holds c = (omega arith, omega arith, passed-none (λ unit. isUnlisted (listedAs unit)) (c .before .args .text .now), omega arith)
 
--- src/writing.rt:20:38
 mul-find-in : tie.Need-mul-find-in Inv-loop μ-loop
 mul-find-in c = search needs
 
--- src/writing.rt:20:38
 shared-slice-read-find-in : tie.Need-shared-slice-read-find-in Inv-loop μ-loop
 shared-slice-read-find-in c = search needs
 
--- src/writing.rt:20:13
 find-in-requires : tie.Need-find-in-requires Inv-loop μ-loop
 find-in-requires c κs = c .before .before .before .before .pre
 
--- src/writing.rt:23:17
 enum-told : tie.Need-enum-told Inv-loop μ-loop
 enum-told c = search needs
 
--- src/writing.rt:23:17
 returns : tie.Need-returns Inv-loop μ-loop
 unfolding measured
 returns c =
@@ -53,31 +46,24 @@ returns c =
     let e : firstUnlisted t ≡ l .loop .i = passed-here (λ unit. isUnlisted (listedAs unit)) t (l .loop .i) (l .loop .inv .2) (c .before .before .before .before .loop-test .taken) (ap isUnlisted (sym (c .before .before .find-in .ensures) ∙ c .enum-told .given .1)) in
     simp (e, lt-ltb _ _ (c .before .before .before .before .loop-test .taken))
 
--- src/writing.rt:26:17
 enum-told-2 : tie.Need-enum-told-2 Inv-loop μ-loop
 enum-told-2 c = search needs
 
--- src/writing.rt:26:17
 add-n : tie.Need-add-n Inv-loop μ-loop
 add-n c = search needs
 
--- src/writing.rt:29:17
 enum-told-3 : tie.Need-enum-told-3 Inv-loop μ-loop
 enum-told-3 c = search needs
 
--- src/writing.rt:29:17
 add-n-2 : tie.Need-add-n-2 Inv-loop μ-loop
 add-n-2 c = search needs
 
--- src/writing.rt:32:9
 add-i : tie.Need-add-i Inv-loop μ-loop
 add-i c = search needs
 
--- src/writing.rt:19:5
 loop-less : tie.Need-loop-less Inv-loop μ-loop
 loop-less c = search needs
 
--- src/writing.rt:19:5
 -- a turn over a unit that is listed
 turn : (c : tie.At-match-came Inv-loop μ-loop) (l : Listed) → l ≡ listedAs (getD (c .before .before .before .before .before .before .args .text .now) (c .before .before .before .before .loop .i) 0) → isUnlisted l ≡ false
     → c .match .n ≡ c .before .before .before .before .loop .n + length (septetsFor l)
@@ -91,14 +77,12 @@ turn c l e listed count =
       omega (arith, left-at t i l (c .before .before .before .loop-test .taken) e),
     )
 
--- src
 loop-again : tie.Need-loop-again Inv-loop μ-loop
 loop-again c =
     ⊎-elim (λ w. turn c (Main _) (sym (w .1 .given .1) ∙ c .before .find-in .ensures) refl (w .2))
     (λ w. turn c (Extension _) (sym (w .1 .given .1) ∙ c .before .find-in .ensures) refl (w .2))
     (c .match .came)
 
--- src/writing.rt:13:1
 returns-2 : tie.Need-returns-2 Inv-loop μ-loop
 unfolding measured
 returns-2 c =
