@@ -6,3 +6,5 @@ pub mod Tests
 pub mod Places
 pub mod Laid
 pub mod Below
+pub mod Filling
+pub mod Ends

@@ -1,0 +1,109 @@
+-- The code's tables say what the printed tables say: one computed test a table, and the rule that it carries to each entry.
+-- Assumes nothing.
+use mathlib.Core.Path.{_≡_, refl, ap, _∙_, sym, subst}
+use mathlib.Core.Bool.{Bool, true, false, cond}
+use mathlib.Core.List.{List, [], _∷_}
+use Prim.{Unit}
+use Prim.Native.Nat.{ℕ, suc, _+_, _-_, _<_, _≤_}
+use native.Mathlib.Nat.{le-refl}
+use native.Mathlib.Omega.{arith}
+use lib.Dec.{T, eqb, ltb, eqb→eq}
+use lib.ListN.{length}
+use Rattle.words.specs.Lists.{firstPlace}
+use borrow.Author.Tests.{lt-ltb, le-ltb, ne-eqb}
+use Rattle.words.proofs.Tests.{everyEntry, every-entry}
+use Rattle.alphabet.specs.declared.Listed.{Listed}
+use Rattle.alphabet.specs.declared.Listed.the-variants.{Unlisted, Main, Extension}
+use Rattle.alphabet.specs.Tables.{mainTable, extension, codes, units, among}
+use Rattle.alphabet.specs.Writing.{listedAs}
+use Rattle.alphabet.specs.Reading.{afterEscape}
+use Rattle.alphabet.proofs.Among.{among-not}
+use Rattle.alphabet.specs.Inner.{listing, RightFrom, shown, RightUnits}
+
+abbrev pub same : Listed → Listed → Bool
+same Unlisted Unlisted = true
+same Unlisted (Main b) = false
+same Unlisted (Extension b) = false
+same (Main a) Unlisted = false
+same (Main a) (Main b) = eqb a b
+same (Main a) (Extension b) = false
+same (Extension a) Unlisted = false
+same (Extension a) (Main b) = false
+same (Extension a) (Extension b) = eqb a b
+
+same-is : (l m : Listed) → T (same l m) → l ≡ m
+same-is Unlisted Unlisted t = refl
+same-is Unlisted (Main b) t = absurd t
+same-is Unlisted (Extension b) t = absurd t
+same-is (Main a) Unlisted t = absurd t
+same-is (Main a) (Main b) t = ap Main (eqb→eq a b t)
+same-is (Main a) (Extension b) t = absurd t
+same-is (Extension a) Unlisted t = absurd t
+same-is (Extension a) (Main b) t = absurd t
+same-is (Extension a) (Extension b) t = ap Extension (eqb→eq a b t)
+
+-- an entry of a reverse table, at the unit that stands so far from the table's first
+unfoldable pub entryRight : ℕ → ℕ → ℕ → Bool
+entryRight first k entry = same (listing entry) (listedAs (first + k))
+
+pub entries-right : (first n : ℕ) (table : List ℕ) → T (everyEntry (entryRight first) 0 table) → length table ≡ n → RightFrom first n table
+unfolding entryRight
+entries-right first n table t long =
+    record { at = λ k h. same-is _ _ (every-entry (entryRight first) table t k (subst (λ (m : ℕ). k < m) (sym long) h)) }
+
+unfoldable pub unitRight : ℕ → ℕ → Bool
+unitRight code unit = eqb unit (shown code)
+
+pub units-right : (table : List ℕ) → T (everyEntry unitRight 0 table) → length table ≡ 0x80 → RightUnits table
+unfolding unitRight
+units-right table t long =
+    record { at = λ code h. eqb→eq _ _ (every-entry unitRight table t code (subst (λ (n : ℕ). code < n) (sym long) h)) }
+
+-- the units that the tables list lie below 0x100, among the Greek capitals, or are the euro sign
+unfoldable inside : ℕ → Bool
+inside u = cond (ltb u 0x100) true (cond (ltb u 0x393) false (cond (ltb u 0x3aa) true (eqb u 0x20ac)))
+
+-- a number that fails a test is in no list whose every number passes it
+absent : (test : ℕ → Bool) (xs : List ℕ) → T (everyEntry (λ k. test) 0 xs) → (x : ℕ) → test x ≡ false → among xs x ≡ false
+absent test xs t x out = among-not xs x (λ k h e. subst T (ap test e ∙ out) (every-entry (λ k. test) xs t k h))
+
+main-inside : T (everyEntry (λ k. inside) 0 (units mainTable))
+unfolding inside mainTable
+main-inside = tt
+
+extension-inside : T (everyEntry (λ k. inside) 0 (units extension))
+unfolding inside extension
+extension-inside = tt
+
+outside-is : (u : ℕ) → inside u ≡ false → Unlisted ≡ listedAs u
+unfolding listedAs
+outside-is u out =
+    sym (simp (absent inside (units mainTable) main-inside u out, absent inside (units extension) extension-inside u out))
+
+pub between-unlisted : (u : ℕ) → 0x100 ≤ u → u < 0x393 → Unlisted ≡ listedAs u
+unfolding inside
+between-unlisted u h k = outside-is u (simp (le-ltb u 0x100 h, lt-ltb u 0x393 k))
+
+pub above-unlisted : (u : ℕ) → 0x3aa ≤ u → (u ≡ 0x20ac → ⊥) → Unlisted ≡ listedAs u
+unfolding inside
+above-unlisted u h k = outside-is u (simp (le-ltb u 0x100 (omega arith), le-ltb u 0x393 (omega arith), le-ltb u 0x3aa h, ne-eqb u 0x20ac k))
+
+-- the default of a match on a number: it is none of the arms' numbers
+abbrev pub NoneOf : List ℕ → ℕ → Type 0 → Type 0
+NoneOf [] x before = before
+NoneOf (y ∷ ys) x before = NoneOf ys x (before × (x ≡ y → ⊥))
+
+none-place : (ys : List ℕ) (x : ℕ) (before : Type 0) → NoneOf ys x before → before × (firstPlace (λ y. eqb y x) ys ≡ length ys)
+unfolding firstPlace
+none-place [] x before h = (h, refl)
+none-place (y ∷ ys) x before h =
+    let w : (before × (x ≡ y → ⊥)) × (firstPlace (λ y. eqb y x) ys ≡ length ys) = none-place ys x (before × (x ≡ y → ⊥)) h in
+    (w .0 .0, rw (ne-eqb y x (λ e. w .0 .1 (sym e)), firstPlace) (ap suc (w .1)))
+
+none-among : (ys : List ℕ) (x : ℕ) → NoneOf ys x Unit → among ys x ≡ false
+unfolding among
+none-among ys x h = le-ltb _ _ (subst (λ (n : ℕ). length ys ≤ n) (sym (none-place ys x Unit h .1)) (le-refl (length ys)))
+
+pub other-shown : (code : ℕ) → NoneOf (codes extension) code Unit → shown code ≡ afterEscape code
+unfolding afterEscape shown
+other-shown code h = sym (simp (none-among (codes extension) code h))

@@ -1,0 +1,41 @@
+-- What only the private functions of this crate cite: how the code's own tables are read, and one step of a reading loop.
+-- Own rule: none. Assumes nothing.
+--   listing k              == what an entry k of a reverse table says of its unit
+--   RightFrom first n t    == t has for each of the n units from first on what the printed tables list
+--   shown code             == the code's unit of the main table, and a space for the escape
+--   RightUnits units       == units has at each code what is shown for it
+--   readAs old septets     == the text of the septets, read as an old page or as the present alphabet
+--   Stepped old s i u next == reading s from place i on gives the unit u first, and goes on at next
+use mathlib.Core.Path.{_≡_}
+use Prim.Native.Nat.{ℕ, _+_, _-_, _<_, _≤_}
+use mathlib.Core.Bool.{Bool, true, false, cond}
+use mathlib.Core.List.{List, _∷_}
+use lib.Dec.{eqb, ltb}
+use lib.ListN.{length, getD, drop}
+use Rattle.alphabet.specs.declared.Listed.{Listed}
+use Rattle.alphabet.specs.declared.Listed.the-variants.{Unlisted, Main, Extension}
+use Rattle.alphabet.specs.Tables.{escape, space}
+use Rattle.alphabet.specs.Writing.{listedAs}
+use Rattle.alphabet.specs.Reading.{mainUnit, textOf, oldTextOf}
+
+-- below 80 a code of the main table, from there on a code after an escape, and FF for an unlisted unit
+unfoldable pub listing : ℕ → Listed
+listing k = cond (ltb k 0x80) (Main k) (cond (ltb k 0xff) (Extension (k - 0x80)) Unlisted)
+
+pub record RightFrom (first n : ℕ) (table : List ℕ) : Type 0 where
+  pub at : (k : ℕ) → k < n → listing (getD table k 0) ≡ listedAs (first + k)
+
+unfoldable pub shown : ℕ → ℕ
+shown code = cond (eqb code escape) space (mainUnit code)
+
+pub record RightUnits (units : List ℕ) : Type 0 where
+  pub at : (code : ℕ) → code < 0x80 → getD units code 0 ≡ shown code
+
+unfoldable pub readAs : Bool → List ℕ → List ℕ
+readAs true septets = oldTextOf septets
+readAs false septets = textOf septets
+
+pub record Stepped (old : Bool) (septets : List ℕ) (i unit next : ℕ) : Type 0 where
+  pub reads : readAs old (drop i septets) ≡ unit ∷ readAs old (drop next septets)
+  pub on : i < next
+  pub within : next ≤ length septets

@@ -1,0 +1,4 @@
+pub mod Tables
+pub mod Writing
+pub mod Reading
+pub mod Inner

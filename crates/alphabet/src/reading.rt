@@ -1,0 +1,114 @@
+// Septets to text, for the present alphabet and for an old page: the judging passes, and the pass that writes.
+ghost use mathlib.Core.Path.{_≡_};
+ghost use Prim.Native.Nat.{_≤_, _<_};
+ghost use lib.ListN.{length};
+ghost use Rattle.words.specs.Lists.{laid};
+ghost use Rattle.alphabet.specs.Reading.{firstWide, textAnswers, textLeaves};
+ghost use Rattle.alphabet.specs.Inner.{RightUnits, readAs, Stepped};
+use crate::tables;
+use words::Filled;
+use words::Refusal;
+
+// The place of the first septet of 128 or more, or the number of septets where there is none.
+fn first_wide(septets: &[u8]) -> usize
+    ensures answer { λ r. ⌜ r ≡ firstWide (now (septets .entry)) ⌝ }
+{
+    let mut i = 0;
+    while i < septets.len() {
+        if septets[i] >= 128 {
+            return i;
+        }
+        i += 1;
+    }
+    i
+}
+
+// One unit, and the place where reading goes on.
+struct Step {
+    unit: u16,
+    next: usize,
+}
+
+fn read_step(septets: &[u8], old: bool, i: usize, units: &[u16; 128]) -> Step
+    requires { ⌜ RightUnits (now units) ⌝ }
+    requires { ⌜ (i < length (now septets)) × (firstWide (now septets) ≡ length (now septets)) ⌝ }
+    ensures answer { λ r. ⌜ Stepped old (now (septets .entry)) i (r .unit) (r .next) ⌝ }
+{
+    let code = septets[i];
+    let j = i + 1;
+    if old {
+        return Step {
+            unit: tables::old_unit(code, units),
+            next: j,
+        };
+    }
+    if code != 0x1b {
+        return Step {
+            unit: tables::shown_unit(code, units),
+            next: j,
+        };
+    }
+    if j == septets.len() {
+        return Step {
+            unit: 0x0020,
+            next: j,
+        };
+    }
+    Step {
+        unit: tables::after_escape(septets[j], units),
+        next: j + 1,
+    }
+}
+
+// The number of units that the septets read as.
+fn units_in(septets: &[u8], old: bool) -> usize
+    requires { ⌜ firstWide (now septets) ≡ length (now septets) ⌝ }
+    ensures answer { λ r. ⌜ r ≡ length (readAs old (now (septets .entry))) ⌝ }
+{
+    let units = tables::unit_table();
+    let mut n: usize = 0;
+    let mut i = 0;
+    while i < septets.len() {
+        let step = read_step(septets, old, i, &units);
+        n += 1;
+        i = step.next;
+    }
+    n
+}
+
+// Lays the text of the septets over the front of the buffer, and answers how many units it has.
+fn lay_text(septets: &[u8], old: bool, out: &mut [u16]) -> usize
+    requires { ⌜ firstWide (now septets) ≡ length (now septets) ⌝ }
+    requires { ⌜ length (readAs old (now septets)) ≤ length (now out) ⌝ }
+    ensures answer { λ r. ⌜ r ≡ length (readAs old (now (septets .entry))) ⌝ }
+    ensures buffer { λ r. ⌜ now (out .exit) ≡ laid (readAs old (now (septets .entry))) (now (out .entry)) ⌝ }
+{
+    let units = tables::unit_table();
+    let mut n: usize = 0;
+    let mut i = 0;
+    while i < septets.len() {
+        let step = read_step(septets, old, i, &units);
+        out[n] = step.unit;
+        n += 1;
+        i = step.next;
+    }
+    n
+}
+
+// Units are never more than septets, so only a buffer that is shorter than those is measured.
+pub(crate) fn read_text(septets: &[u8], old: bool, out: &mut [u16]) -> Filled
+    ensures answer { λ r. ⌜ r ≡ textAnswers (now (septets .entry)) (readAs old (now (septets .entry))) (length (now (out .entry))) ⌝ }
+    ensures buffer { λ r. ⌜ now (out .exit) ≡ textLeaves (now (septets .entry)) (readAs old (now (septets .entry))) (now (out .entry)) ⌝ }
+{
+    let wide = first_wide(septets);
+    if wide < septets.len() {
+        return Filled::Refused(Refusal::NoSeptet { septet: wide });
+    }
+    if out.len() < septets.len() {
+        if out.len() < units_in(septets, old) {
+            return Filled::Refused(Refusal::NoRoom);
+        }
+    }
+    let n = lay_text(septets, old, out);
+    Filled::Done(n)
+}
