@@ -5,3 +5,4 @@ pub mod Tests
 pub mod Places
 pub mod Laid
 pub mod Below
+pub mod Closing
