@@ -21,7 +21,7 @@ use Rattle.words.proofs.Below.{Below}
 use Rattle.words.proofs.Places.{place-before}
 use Rattle.words.proofs.Tests.{and-left, and-right}
 use Rattle.packing.specs.declared.Packed.the-variants as packed
-use Rattle.packing.specs.Stream.{octetsFor}
+use Rattle.stream.specs.Stream.{octetsFor}
 use Rattle.packing.specs.SeptetCalls.{isOldPage, octetsOf, countOf, packRules, packAnswers, packLeaves, septetsFit, septetsOf, unpackRules, unpackAnswers, unpackLeaves}
 use Rattle.packing.specs.UnitCalls.{ucs2OctetsOf, toOctetsRules, toOctetsAnswers, toOctetsLeaves, unitsFit, unitsOf, toUnitsRules, toUnitsAnswers, toUnitsLeaves}
 use Rattle.packing.specs.Inner.{countedAs, givenAnswers, givenLeaves}

@@ -1,7 +1,3 @@
-pub mod Stream
-pub mod UssdPacking
-pub mod Pages
-pub mod Ucs2
 pub mod Answers
 pub mod SeptetCalls
 pub mod UnitCalls

@@ -23,9 +23,9 @@ use Rattle.words.specs.Lists.{firstPlace, laid}
 use Rattle.words.specs.Judging.{Rule, when, verdict, settle}
 use Rattle.packing.specs.declared.Packed.{Packed}
 use Rattle.packing.specs.declared.Packed.the-variants as done
-use Rattle.packing.specs.Stream.{octetsFor, packed, unpacked}
-use Rattle.packing.specs.UssdPacking.{ussdOctets, ussdSeptets}
-use Rattle.packing.specs.Pages.{pageOctets, pageSeptets, oldPageSeptets}
+use Rattle.stream.specs.Stream.{octetsFor, packed, unpacked}
+use Rattle.stream.specs.UssdPacking.{ussdOctets, ussdSeptets}
+use Rattle.stream.specs.Pages.{pageOctets, pageSeptets, oldPageSeptets}
 
 abbrev pub isOldPage : Service → Bool
 isOldPage ShortMessage = false

@@ -20,7 +20,7 @@ use Rattle.words.specs.Sizes.{mostUnits, mostOctets}
 use Rattle.words.specs.Lists.{laid}
 use Rattle.words.specs.Closing.{withoutClosing}
 use Rattle.words.specs.Judging.{Rule, when, verdict, settle}
-use Rattle.packing.specs.Ucs2.{unitOctets, octetUnits, unitPage}
+use Rattle.stream.specs.Ucs2.{unitOctets, octetUnits, unitPage}
 use Rattle.packing.specs.SeptetCalls.{isOldPage}
 
 abbrev pub ucs2OctetsOf : Service → List ℕ → List ℕ

@@ -4,8 +4,8 @@ ghost use Prim.Native.Nat.{ℕ, _+_, _-_, _*_, _/_, _%_, _^_, _≤_, _<_};
 ghost use mathlib.Core.List.{_++_};
 ghost use lib.ListN.{length, getD, take, drop};
 ghost use Rattle.words.specs.Lists.{laid};
-ghost use Rattle.packing.specs.Stream.{octetsFor};
-ghost use Rattle.packing.specs.Inner.{value, digits};
+ghost use Rattle.stream.specs.Stream.{octetsFor};
+ghost use Rattle.stream.specs.Inner.{value, digits};
 
 // How many octets n septets take. (7n could overflow.)
 pub(crate) fn octets_for(n: usize) -> usize

@@ -3,7 +3,7 @@ ghost use mathlib.Core.Path.{_≡_};
 ghost use Prim.Native.Nat.{ℕ, _+_, _-_, _*_, _/_, _%_, _^_, _≤_, _<_};
 ghost use lib.ListN.{length, take, getD};
 ghost use Rattle.words.specs.Closing.{withoutClosing};
-ghost use Rattle.packing.specs.Ucs2.{unitOctets, octetUnits, unitPage};
+ghost use Rattle.stream.specs.Ucs2.{unitOctets, octetUnits, unitPage};
 ghost use Rattle.packing.specs.UnitCalls.{unitsFit};
 ghost use Rattle.packing.specs.Inner.{givenAnswers, givenLeaves};
 use words::Filled;

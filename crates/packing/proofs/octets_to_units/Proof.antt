@@ -12,10 +12,10 @@ use Rattle.words.specs.declared.Service.the-variants.{ShortMessage, Broadcast, 
 use Rattle.words.specs.Judging.{verdict}
 use Rattle.words.specs.Closing.{withoutClosing}
 use Rattle.words.proofs.Closing.{closing-front, closing-length}
-use Rattle.packing.specs.Ucs2.{octetUnits}
+use Rattle.stream.specs.Ucs2.{octetUnits}
 use Rattle.packing.specs.UnitCalls.{unitsFit, unitsOf, toUnitsRules, toUnitsAnswers, toUnitsLeaves}
 use Rattle.packing.proofs.Given.{Gives}
-use Rattle.packing.proofs.UnitOctets.{octet-units-length}
+use Rattle.stream.proofs.UnitOctets.{octet-units-length}
 use Rattle.packing.proofs.Calls.{to-units-passed, fit-units}
 use borrow.Author.Needs.{needs}
 use Rattle.packing.proofs.octets_to_units.Statement.{statement}

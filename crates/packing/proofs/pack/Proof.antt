@@ -14,8 +14,8 @@ use Rattle.words.specs.Lists.{firstPlace}
 use Rattle.words.specs.Judging.{verdict}
 use Rattle.words.proofs.Below.{Below}
 use Rattle.packing.specs.declared.Packed.the-variants.{Refused}
-use Rattle.packing.specs.Stream.{packed}
-use Rattle.packing.specs.UssdPacking.{withCr, closed, ussdOctets}
+use Rattle.stream.specs.Stream.{packed}
+use Rattle.stream.specs.UssdPacking.{withCr, closed, ussdOctets}
 use Rattle.packing.specs.SeptetCalls.{isOldPage, packRules, packAnswers, packLeaves}
 use Rattle.packing.specs.Inner.{countedAs}
 use Rattle.packing.proofs.Given.{Gives}

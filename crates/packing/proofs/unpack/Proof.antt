@@ -9,12 +9,12 @@ use lib.ListN.{length}
 use Rattle.words.specs.declared.Service.{Service}
 use Rattle.words.specs.declared.Service.the-variants.{ShortMessage, Broadcast, Ussd, OldPage}
 use Rattle.words.specs.Judging.{verdict}
-use Rattle.packing.specs.Stream.{octetsFor, unpacked}
-use Rattle.packing.specs.UssdPacking.{ussdSeptets}
-use Rattle.packing.specs.Pages.{pageSeptets, oldPageSeptets}
+use Rattle.stream.specs.Stream.{octetsFor, unpacked}
+use Rattle.stream.specs.UssdPacking.{ussdSeptets}
+use Rattle.stream.specs.Pages.{pageSeptets, oldPageSeptets}
 use Rattle.packing.specs.SeptetCalls.{septetsFit, unpackRules, unpackAnswers, unpackLeaves}
 use Rattle.packing.proofs.Given.{Gives}
-use Rattle.packing.proofs.Ussd.{kept-octets, kept-septets}
+use Rattle.stream.proofs.Ussd.{kept-octets, kept-septets}
 use Rattle.packing.proofs.Calls.{unpack-passed, fit-short, fit-page, fit-ussd}
 use borrow.Author.Needs.{needs}
 use Rattle.packing.proofs.unpack.Statement.{statement}

@@ -8,8 +8,8 @@ use lib.ListN.{length, take, drop, getD}
 use lib.Seq.{getD-drop}
 use lib.Bits.{bitOr}
 use Rattle.words.proofs.Below.{below-drop}
-use Rattle.packing.specs.Inner.{value}
-use Rattle.packing.proofs.Numbers.{join-more, shift-most}
+use Rattle.stream.specs.Inner.{value}
+use Rattle.stream.proofs.Numbers.{join-more, shift-most}
 use borrow.Author.Needs.{needs}
 use Rattle.packing.proofs.pieces.join.Statement.{statement}
 use Rattle.packing.proofs.pieces.join.Tie as tie

@@ -1,6 +1,6 @@
 -- n less n/8 is 7n/8 rounded up.
 use native.Mathlib.Omega.{arith}
-use Rattle.packing.specs.Stream.{octetsFor}
+use Rattle.stream.specs.Stream.{octetsFor}
 use borrow.Author.Needs.{needs}
 use Rattle.packing.proofs.pieces.octets_for.Statement.{statement}
 use Rattle.packing.proofs.pieces.octets_for.Tie as tie

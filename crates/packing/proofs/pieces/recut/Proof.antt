@@ -7,8 +7,8 @@ use native.Mathlib.Nat.{mul-zero}
 use lib.ListN.{length, take, drop}
 use Rattle.words.specs.Lists.{laid}
 use Rattle.words.proofs.Laid.{laid-then}
-use Rattle.packing.specs.Inner.{value, digits}
-use Rattle.packing.proofs.Numbers.{digits-length, group-next, group-within, recut-group}
+use Rattle.stream.specs.Inner.{value, digits}
+use Rattle.stream.proofs.Numbers.{digits-length, group-next, group-within, recut-group}
 use borrow.Author.Needs.{needs}
 use Rattle.packing.proofs.pieces.recut.Statement.{statement}
 use Rattle.packing.proofs.pieces.recut.Tie as tie

@@ -10,8 +10,8 @@ use native.Mathlib.Numerals.{add-one}
 use lib.ListN.{length, take, drop, getD, set}
 use lib.Seq.{paste, paste-zero, paste-suc, take-all}
 use lib.Bits.{bitAnd}
-use Rattle.packing.specs.Inner.{digits}
-use Rattle.packing.proofs.Numbers.{digits-length, piece-at, shift-most, mask-ones}
+use Rattle.stream.specs.Inner.{digits}
+use Rattle.stream.proofs.Numbers.{digits-length, piece-at, shift-most, mask-ones}
 use borrow.Author.Needs.{needs}
 use Rattle.packing.proofs.pieces.spread.Statement.{statement}
 use Rattle.packing.proofs.pieces.spread.Tie as tie

@@ -1,7 +1,7 @@
 -- The tests are those of the definition, one after the other.
 use mathlib.Core.Path.{_≡_, sym, _∙_}
-use Rattle.packing.specs.UssdPacking.{last}
-use Rattle.packing.proofs.Ussd.{adds-seven, adds-eight, adds-other, adds-none}
+use Rattle.stream.specs.UssdPacking.{last}
+use Rattle.stream.proofs.Ussd.{adds-seven, adds-eight, adds-other, adds-none}
 use borrow.Author.Needs.{needs}
 use Rattle.packing.proofs.septets.adds_cr.Statement.{statement}
 use Rattle.packing.proofs.septets.adds_cr.Tie as tie

@@ -6,7 +6,7 @@ use borrow.Author.Tests.{le-leb, lt-leb, eq-eqb, ne-eqb}
 use lib.Dec.{eqb}
 use Rattle.words.specs.Sizes.{mostSeptets, mostOctets}
 use Rattle.words.specs.declared.Service.the-variants.{ShortMessage, Broadcast, Ussd, OldPage}
-use Rattle.packing.specs.Stream.{octetsFor}
+use Rattle.stream.specs.Stream.{octetsFor}
 use borrow.Author.Needs.{needs}
 use Rattle.packing.proofs.septets.fits.Statement.{statement}
 use Rattle.packing.proofs.septets.fits.Tie as tie

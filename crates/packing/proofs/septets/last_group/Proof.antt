@@ -9,9 +9,9 @@ use lib.Dec.{lit<}
 use lib.ListN.{length, take, drop, length-drop}
 use lib.Seq.{take-all}
 use Rattle.words.proofs.Below.{below-drop}
-use Rattle.packing.specs.UssdPacking.{withCr}
-use Rattle.packing.specs.Inner.{value}
-use Rattle.packing.proofs.Numbers.{pow-mul, value-lt, value-one, value-append, join-piece}
+use Rattle.stream.specs.UssdPacking.{withCr}
+use Rattle.stream.specs.Inner.{value}
+use Rattle.stream.proofs.Numbers.{pow-mul, value-lt, value-one, value-append, join-piece}
 use borrow.Author.Needs.{needs}
 use Rattle.packing.proofs.septets.last_group.Statement.{statement}
 use Rattle.packing.proofs.septets.last_group.Tie as tie

@@ -6,7 +6,7 @@ use native.Mathlib.Omega.{arith}
 use lib.ListN.{length, drop, replicate, length-replicate, drop-of-length-le}
 use Rattle.words.specs.Lists.{laid}
 use Rattle.words.proofs.Laid.{Laying, lay-none, lay-one, lay-rest, lay-end}
-use Rattle.packing.specs.Pages.{page}
+use Rattle.stream.specs.Pages.{page}
 use borrow.Author.Needs.{needs}
 use Rattle.packing.proofs.septets.lay.Statement.{statement}
 use Rattle.packing.proofs.septets.lay.Tie as tie

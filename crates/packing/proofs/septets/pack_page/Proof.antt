@@ -5,10 +5,10 @@ use mathlib.Core.List.{List}
 use native.Mathlib.Omega.{arith}
 use lib.ListN.{length}
 use Rattle.words.proofs.Below.{Below}
-use Rattle.packing.specs.Stream.{packed}
-use Rattle.packing.specs.Pages.{page, pageOctets}
+use Rattle.stream.specs.Stream.{packed}
+use Rattle.stream.specs.Pages.{page, pageOctets}
 use Rattle.packing.specs.Inner.{givenAnswers, givenLeaves}
-use Rattle.packing.proofs.Pages.{page-length, page-below}
+use Rattle.stream.proofs.Pages.{page-length, page-below}
 use borrow.Author.Needs.{needs}
 use Rattle.packing.proofs.septets.pack_page.Statement.{statement}
 use Rattle.packing.proofs.septets.pack_page.Tie as tie

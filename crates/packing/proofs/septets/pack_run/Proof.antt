@@ -6,11 +6,11 @@ use native.Mathlib.Omega.{arith}
 use lib.ListN.{length, take, drop}
 use Rattle.words.specs.Lists.{laid}
 use Rattle.words.proofs.Laid.{laid-then}
-use Rattle.packing.specs.Stream.{octetsFor, packed}
-use Rattle.packing.specs.UssdPacking.{withCr}
-use Rattle.packing.specs.Inner.{value, digits, withCount}
-use Rattle.packing.proofs.Numbers.{digits-length}
-use Rattle.packing.proofs.Ussd.{octets-least, octets-most, packed-with-length, packed-parts}
+use Rattle.stream.specs.Stream.{octetsFor, packed}
+use Rattle.stream.specs.UssdPacking.{withCr}
+use Rattle.stream.specs.Inner.{value, digits, withCount}
+use Rattle.stream.proofs.Numbers.{digits-length}
+use Rattle.stream.proofs.Ussd.{octets-least, octets-most, packed-with-length, packed-parts}
 use Rattle.packing.proofs.Given.{given-short, given-done}
 use borrow.Author.Needs.{needs}
 use Rattle.packing.proofs.septets.pack_run.Statement.{statement}

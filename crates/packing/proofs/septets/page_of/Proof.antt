@@ -4,8 +4,8 @@ use mathlib.Core.Path.{_≡_, _∙_}
 use native.Mathlib.Omega.{arith}
 use lib.ListN.{length, replicate, length-replicate}
 use Rattle.words.proofs.Laid.{laid-full}
-use Rattle.packing.specs.Stream.{octetsFor, unpacked}
-use Rattle.packing.proofs.Stream.{unpacked-length}
+use Rattle.stream.specs.Stream.{octetsFor, unpacked}
+use Rattle.stream.proofs.Stream.{unpacked-length}
 use borrow.Author.Needs.{needs}
 use Rattle.packing.proofs.septets.page_of.Statement.{statement}
 use Rattle.packing.proofs.septets.page_of.Tie as tie

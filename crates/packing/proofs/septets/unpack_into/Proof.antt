@@ -8,10 +8,10 @@ use lib.Seq.{take-all, length-take-le}
 use Rattle.words.specs.Lists.{laid}
 use Rattle.words.proofs.Laid.{laid-then, laid-length}
 use Rattle.words.proofs.Below.{Below, below-take}
-use Rattle.packing.specs.Stream.{octetsFor, unpacked}
-use Rattle.packing.specs.Inner.{value, digits}
-use Rattle.packing.proofs.Numbers.{digits-length, recut-append}
-use Rattle.packing.proofs.Stream.{unpacked-digits}
+use Rattle.stream.specs.Stream.{octetsFor, unpacked}
+use Rattle.stream.specs.Inner.{value, digits}
+use Rattle.stream.proofs.Numbers.{digits-length, recut-append}
+use Rattle.stream.proofs.Stream.{unpacked-digits}
 use borrow.Author.Needs.{needs}
 use Rattle.packing.proofs.septets.unpack_into.Statement.{statement}
 use Rattle.packing.proofs.septets.unpack_into.Tie as tie

@@ -6,7 +6,7 @@ use native.Mathlib.Omega.{arith}
 use lib.ListN.{length, take}
 use Rattle.words.specs.Closing.{withoutClosing}
 use Rattle.words.proofs.Closing.{closing-length, closing-front}
-use Rattle.packing.specs.Stream.{unpacked}
+use Rattle.stream.specs.Stream.{unpacked}
 use Rattle.packing.specs.Inner.{givenAnswers, givenLeaves}
 use borrow.Author.Needs.{needs}
 use Rattle.packing.proofs.septets.unpack_page.Statement.{statement}

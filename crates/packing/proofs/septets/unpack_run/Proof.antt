@@ -1,8 +1,8 @@
 -- The room is judged, and then the septets are laid over the front of out.
 use mathlib.Core.Path.{_≡_, sym}
 use native.Mathlib.Omega.{arith}
-use Rattle.packing.specs.Stream.{unpacked}
-use Rattle.packing.proofs.Stream.{unpacked-length}
+use Rattle.stream.specs.Stream.{unpacked}
+use Rattle.stream.proofs.Stream.{unpacked-length}
 use Rattle.packing.proofs.Given.{given-short, given-done}
 use borrow.Author.Needs.{needs}
 use Rattle.packing.proofs.septets.unpack_run.Statement.{statement}

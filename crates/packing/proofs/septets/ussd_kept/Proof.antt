@@ -4,8 +4,8 @@ use mathlib.Core.Path.{_≡_, refl, sym, ap, _∙_}
 use mathlib.Core.List.{List}
 use borrow.Author.Tests.{eq-eqb, ne-eqb}
 use lib.ListN.{length}
-use Rattle.packing.specs.Stream.{unpacked}
-use Rattle.packing.proofs.Ussd.{drops-seven, drops-other, drops-none, last-septet, kept-dropped, kept-all}
+use Rattle.stream.specs.Stream.{unpacked}
+use Rattle.stream.proofs.Ussd.{drops-seven, drops-other, drops-none, last-septet, kept-dropped, kept-all}
 use borrow.Author.Needs.{needs}
 use Rattle.packing.proofs.septets.ussd_kept.Statement.{statement}
 use Rattle.packing.proofs.septets.ussd_kept.Tie as tie

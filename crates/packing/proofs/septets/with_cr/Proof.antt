@@ -2,7 +2,7 @@
 use mathlib.Core.Path.{_≡_, refl, sym, ap, subst}
 use mathlib.Core.Bool.{Bool}
 use Prim.Native.Nat.{ℕ, _+_}
-use Rattle.packing.specs.Inner.{withCount}
+use Rattle.stream.specs.Inner.{withCount}
 use borrow.Author.Needs.{needs}
 use Rattle.packing.proofs.septets.with_cr.Statement.{statement}
 use Rattle.packing.proofs.septets.with_cr.Tie as tie

@@ -6,8 +6,8 @@ use native.Mathlib.Omega.{arith}
 use lib.ListN.{length, take, drop, drop-of-length-le}
 use lib.Seq.{length-take-le}
 use Rattle.words.proofs.Laid.{Laying, lay-none, lay-front, lay-end}
-use Rattle.packing.specs.Ucs2.{octetUnits}
-use Rattle.packing.proofs.UnitOctets.{octet-units-length}
+use Rattle.stream.specs.Ucs2.{octetUnits}
+use Rattle.stream.proofs.UnitOctets.{octet-units-length}
 use Rattle.packing.proofs.Given.{given-short, given-done}
 use borrow.Author.Needs.{needs}
 use Rattle.packing.proofs.units.get_units.Statement.{statement}

@@ -5,8 +5,8 @@ use mathlib.Core.List.{List}
 use native.Mathlib.Omega.{arith}
 use lib.ListN.{length}
 use Rattle.words.proofs.Closing.{Filled-from, filled-end, filled-down, filled-here, filled-whole}
-use Rattle.packing.specs.Ucs2.{octetUnits}
-use Rattle.packing.proofs.UnitOctets.{octet-units-length}
+use Rattle.stream.specs.Ucs2.{octetUnits}
+use Rattle.stream.proofs.UnitOctets.{octet-units-length}
 use borrow.Author.Needs.{needs}
 use Rattle.packing.proofs.units.page_kept.Statement.{statement}
 use Rattle.packing.proofs.units.page_kept.Tie as tie

@@ -4,9 +4,9 @@ use mathlib.Core.Path.{_≡_, ap, _∙_}
 use mathlib.Core.List.{List}
 use native.Mathlib.Omega.{arith}
 use lib.ListN.{length}
-use Rattle.packing.specs.Ucs2.{unitOctets, unitPage}
+use Rattle.stream.specs.Ucs2.{unitOctets, unitPage}
 use Rattle.packing.specs.Inner.{givenAnswers, givenLeaves}
-use Rattle.packing.proofs.Pages.{unit-page-length}
+use Rattle.stream.proofs.Pages.{unit-page-length}
 use borrow.Author.Needs.{needs}
 use Rattle.packing.proofs.units.put_page.Statement.{statement}
 use Rattle.packing.proofs.units.put_page.Tie as tie

@@ -7,8 +7,8 @@ use native.Mathlib.Omega.{arith}
 use lib.Bits.{bitAnd, and-mask, mask-lt}
 use lib.ListN.{length, getD, drop, set, drop-of-length-le}
 use Rattle.words.proofs.Laid.{Laying, lay-none, lay-left, lay-one, lay-moved, lay-end}
-use Rattle.packing.specs.Ucs2.{unitOctets}
-use Rattle.packing.proofs.UnitOctets.{unit-octets-length, unit-octets-next}
+use Rattle.stream.specs.Ucs2.{unitOctets}
+use Rattle.stream.proofs.UnitOctets.{unit-octets-length, unit-octets-next}
 use Rattle.packing.proofs.Given.{given-short, given-done}
 use borrow.Author.Needs.{needs}
 use Rattle.packing.proofs.units.put_units.Statement.{statement}

@@ -3,7 +3,7 @@ use mathlib.Core.Path.{_∙_, sym}
 use native.Mathlib.Omega.{arith}
 use Prim.Native.Nat.{_+_, _*_}
 use lib.ListN.{getD}
-use Rattle.packing.proofs.UnitOctets.{octet-units-at, unit-joined}
+use Rattle.stream.proofs.UnitOctets.{octet-units-at, unit-joined}
 use borrow.Author.Needs.{needs}
 use Rattle.packing.proofs.units.unit_at.Statement.{statement}
 use Rattle.packing.proofs.units.unit_at.Tie as tie

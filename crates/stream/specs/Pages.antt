@@ -9,7 +9,7 @@ use mathlib.Core.List.{List}
 use lib.ListN.{replicate}
 use Rattle.words.specs.Lists.{laid}
 use Rattle.words.specs.Closing.{withoutClosing}
-use Rattle.packing.specs.Stream.{packed, unpacked}
+use Rattle.stream.specs.Stream.{packed, unpacked}
 
 -- "a page starts as 93 septets, all CR, and the text is laid over its front"
 unfoldable pub page : List ℕ → List ℕ

@@ -14,11 +14,11 @@ use lib.Seq.{length-take-le, drop-cons, drop-length}
 use lib.Pow.{shr-shr, high}
 use Rattle.words.proofs.Tests.{and-left, and-right}
 use Rattle.words.proofs.Below.{Below, below-append, below-take}
-use Rattle.packing.specs.Stream.{octetsFor, packed, unpacked}
-use Rattle.packing.specs.UssdPacking.{last, addsCr, withCr, closed, ussdOctets, dropsCr, opened, ussdSeptets}
-use Rattle.packing.specs.Inner.{value, digits, withCount}
-use Rattle.packing.proofs.Numbers.{pow-mul, value-lt, value-one, value-append, getD-digits, recut-append}
-use Rattle.packing.proofs.Stream.{packed-digits, packed-length, unpacked-length, unpacked-digits, unpacked-take}
+use Rattle.stream.specs.Stream.{octetsFor, packed, unpacked}
+use Rattle.stream.specs.UssdPacking.{last, addsCr, withCr, closed, ussdOctets, dropsCr, opened, ussdSeptets}
+use Rattle.stream.specs.Inner.{value, digits, withCount}
+use Rattle.stream.proofs.Numbers.{pow-mul, value-lt, value-one, value-append, getD-digits, recut-append}
+use Rattle.stream.proofs.Stream.{packed-digits, packed-length, unpacked-length, unpacked-digits, unpacked-take}
 
 -- ---- adding
 

@@ -14,7 +14,7 @@ use lib.Bits.{bitAnd, bitOr, or-shifted-r, and-mask}
 use lib.Seq.{length-take-le, take-add}
 use native.Mathlib.Numerals.{add-one}
 use Rattle.words.proofs.Below.{Below, below-take}
-use Rattle.packing.specs.Inner.{value, digits}
+use Rattle.stream.specs.Inner.{value, digits}
 
 pub pow-mul : (a m n : ℕ) → a ^ (m * n) ≡ (a ^ m) ^ n
 pow-mul a m zero = ap (λ (x : ℕ). a ^ x) (mul-zero m) ∙ pow-zero a ∙ sym (pow-zero (a ^ m))

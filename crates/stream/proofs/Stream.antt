@@ -13,9 +13,9 @@ use lib.Dec.{lit<}
 use lib.Pow.{pow-pos, pow-mono, pow-add, mod-pow-add, shr-shr, high}
 use Rattle.words.specs.Bits.{bitOf}
 use Rattle.words.proofs.Below.{Below}
-use Rattle.packing.specs.Stream.{streamBit, gather, cut, octetsFor, packed, unpacked}
-use Rattle.packing.specs.Inner.{value, digits}
-use Rattle.packing.proofs.Numbers.{pow-mul, digits-below, value-lt, digits-value, value-digits}
+use Rattle.stream.specs.Stream.{streamBit, gather, cut, octetsFor, packed, unpacked}
+use Rattle.stream.specs.Inner.{value, digits}
+use Rattle.stream.proofs.Numbers.{pow-mul, digits-below, value-lt, digits-value, value-digits}
 
 -- w bits from bit m on, as a number
 pub gather-bits : (v m w : ℕ) → gather (bitOf v) m w ≡ v / 2 ^ m % 2 ^ w

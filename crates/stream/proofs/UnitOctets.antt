@@ -11,7 +11,7 @@ use lib.Pow.{shl-exact}
 use lib.Dec.{lit≤}
 use lib.ListN.{length, getD, drop}
 use Rattle.words.proofs.Below.{Below}
-use Rattle.packing.specs.Ucs2.{unitOctets, octetUnits}
+use Rattle.stream.specs.Ucs2.{unitOctets, octetUnits}
 
 pub unit-octets-length : (us : List ℕ) → length (unitOctets us) ≡ 2 * length us
 unfolding unitOctets

@@ -13,8 +13,8 @@ use Rattle.words.specs.Closing.{withoutClosing}
 use Rattle.words.proofs.Below.{Below, below-drop, below-append, below-replicate}
 use Rattle.words.proofs.Laid.{laid-length}
 use Rattle.words.proofs.Closing.{closing-run, closing-injective}
-use Rattle.packing.specs.Pages.{page}
-use Rattle.packing.specs.Ucs2.{unitPage}
+use Rattle.stream.specs.Pages.{page}
+use Rattle.stream.specs.Ucs2.{unitPage}
 
 -- filling with its front taken off is less filling
 replicate-drop : (k n x : ℕ) → drop k (replicate n x) ≡ replicate (n - k) x

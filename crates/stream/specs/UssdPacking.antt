@@ -13,7 +13,7 @@ use mathlib.Core.Bool.{Bool, true, false, _&&_, _||_}
 use mathlib.Core.List.{List, [], _∷_, _++_}
 use lib.ListN.{length, getD, take}
 use lib.Dec.{eqb, ltb}
-use Rattle.packing.specs.Stream.{packed, unpacked}
+use Rattle.stream.specs.Stream.{packed, unpacked}
 
 unfoldable pub last : List ℕ → ℕ
 last s = getD s (length s - 1) 0

@@ -1,0 +1,5 @@
+pub mod Numbers
+pub mod Stream
+pub mod Ussd
+pub mod Pages
+pub mod UnitOctets
