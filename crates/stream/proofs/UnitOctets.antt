@@ -65,3 +65,14 @@ unit-octets-below (u ∷ us) h (suc (suc k)) = unit-octets-below us (λ i. h (su
 -- a unit by a shift: the high octet above the low one
 pub unit-joined : (high low : ℕ) → high < 256 → low < 256 → bitOr (high * 2 ^ 8 % 2 ^ 16) low ≡ 256 * high + low
 unit-joined high low h l = ap (λ (x : ℕ). bitOr x low) (shl-exact 8 8 16 h (lit≤ tt)) ∙ or-shifted high 8 low l ∙ omega arith
+
+-- and the octets of the units of an even number of octets are the octets
+pub unit-octets-octet-units : (o : List ℕ) → Below 256 o → length o % 2 ≡ 0 → unitOctets (octetUnits o) ≡ o
+unfolding unitOctets octetUnits
+unit-octets-octet-units [] h e = refl
+unit-octets-octet-units (a ∷ []) h e = absurd (omega arith)
+unit-octets-octet-units (a ∷ b ∷ o) h e =
+    let small : b < 256 = h 1 in
+    let high : (256 * a + b) / 256 ≡ a = omega arith in
+    let low : (256 * a + b) % 256 ≡ b = omega arith in
+    ap₂ (λ (x : ℕ) (xs : List ℕ). x ∷ xs) high (ap₂ (λ (x : ℕ) (xs : List ℕ). x ∷ xs) low (unit-octets-octet-units o (λ k. h (suc (suc k))) (omega arith)))
