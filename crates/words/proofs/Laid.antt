@@ -1,12 +1,12 @@
 -- A buffer whose front is being overwritten with a list, one element after the other: what a loop that fills it knows at each turn.
 -- Assumes nothing.
-use mathlib.Core.Path.{_≡_, refl, ap, _∙_, sym, subst}
+use mathlib.Core.Path.{_≡_, refl, ap, ap₂, _∙_, sym, subst}
 use mathlib.Core.List.{List, [], _∷_, _++_, append-assoc, append-nil}
 use Prim.Native.Nat.{ℕ, _+_, _≤_, _<_}
 use native.Mathlib.Numerals.{add-one}
 use native.Mathlib.Omega.{arith}
 use lib.ListN.{length, take, drop, set, getD, length-append, length-set, take-append-drop, length-drop, drop-of-length-le}
-use lib.Seq.{drop-cons, length-take-le, take-suc-set, drop-set-lt, drop-drop}
+use lib.Seq.{drop-cons, length-take-le, take-suc-set, drop-set-lt, drop-drop, drop-append-add, take-at, getD-take}
 use Rattle.words.specs.Lists.{laid}
 
 -- out has at its first n places what whole has before rest, and from n on what the buffer had at the start
@@ -52,6 +52,14 @@ lay-moved {start} {whole} {rest} {n} {n′} {out} {out′} l p q =
 pub lay-rest : {start whole : List ℕ} {n : ℕ} {out : List ℕ} (xs : List ℕ) (i : ℕ) → Laying start whole (drop i xs) n out → i < length xs → Laying start whole (getD xs i 0 ∷ drop (i + 1) xs) n out
 lay-rest xs i l h = lay-left l (drop-cons xs i 0 h ∙ ap (λ (k : ℕ). getD xs i 0 ∷ drop k xs) (sym (add-one i)))
 
+-- the first m elements of a list are copied: the next is the one at i
+pub lay-front : {start : List ℕ} {m i v : ℕ} {out : List ℕ} (xs : List ℕ) → m ≤ length xs → m ≤ length start → Laying start (take m xs) (drop i (take m xs)) i out → i < m → v ≡ getD xs i 0
+    → Laying start (take m xs) (drop (i + 1) (take m xs)) (i + 1) (set out i v)
+lay-front {start} {m} {i} {v} {out} xs within fits l h e =
+    let size : length (take m xs) ≡ m = length-take-le m xs within in
+    subst (λ (x : ℕ). Laying start (take m xs) (drop (i + 1) (take m xs)) (i + 1) (set out i x)) (getD-take m xs i 0 h ∙ sym e)
+    (lay-one (lay-rest (take m xs) i l (omega arith)) (omega arith))
+
 -- nothing is left
 pub lay-end : {start whole rest : List ℕ} {n : ℕ} {out : List ℕ} → Laying start whole rest n out → rest ≡ [] → out ≡ laid whole start
 unfolding laid
@@ -71,3 +79,11 @@ laid-full xs start full = ap (λ (x : List ℕ). xs ++ x) (drop-of-length-le sta
 pub laid-length : (xs start : List ℕ) → length xs ≤ length start → length (laid xs start) ≡ length start
 unfolding laid
 laid-length xs start fits = simp (length-append, length-drop) (omega arith)
+
+-- a list is stored right after one that was laid
+pub laid-then : (xs ys start : List ℕ) (n m : ℕ) → length xs ≡ n → length ys ≡ m → take n (laid xs start) ++ ys ++ drop (n + m) (laid xs start) ≡ laid (xs ++ ys) start
+unfolding laid
+laid-then xs ys start n m p q =
+    ap₂ (λ (a b : List ℕ). a ++ ys ++ b) (take-at xs (drop (length xs) start) n p)
+    (ap (λ (k : ℕ). drop (k + m) (laid xs start)) (sym p) ∙ drop-append-add xs (drop (length xs) start) m ∙ drop-drop m (length xs) start)
+    ∙ ap (λ (k : ℕ). (xs ++ ys) ++ drop k start) (sym (length-append xs ys ∙ ap (λ (k : ℕ). length xs + k) q))

@@ -8,3 +8,4 @@ pub mod Laid
 pub mod Below
 pub mod Filling
 pub mod Ends
+pub mod Closing

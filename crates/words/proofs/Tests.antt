@@ -1,7 +1,7 @@
 -- A rule that holds of each of finitely many things, from one test that antt computes: over the numbers below n, and over a table.
 -- Assumes nothing.
-use mathlib.Core.Path.{_≡_, subst, sym, _∙_}
-use mathlib.Core.Bool.{Bool, true, false}
+use mathlib.Core.Path.{_≡_, refl, subst, sym, _∙_}
+use mathlib.Core.Bool.{Bool, true, false, _&&_, false≢true}
 use mathlib.Core.List.{List, [], _∷_}
 use mathlib.Core.Logic.{⊎-elim}
 use Prim.Native.Nat.{ℕ, zero, suc, _+_, _≤_, _<_}
@@ -55,3 +55,12 @@ entry-from f (x ∷ xs) i t (suc k) h =
 
 pub every-entry : (f : ℕ → ℕ → Bool) (xs : List ℕ) → T (everyEntry f 0 xs) → (k : ℕ) → k < length xs → T (f k (getD xs k 0))
 every-entry f xs t k h = subst (λ (m : ℕ). T (f m (getD xs k 0))) (zero-add k) (entry-from f xs 0 t k h)
+
+-- a test of two parts that holds, part by part
+pub and-left : (a b : Bool) → (a && b) ≡ true → a ≡ true
+and-left true b e = refl
+and-left false b e = e
+
+pub and-right : (a b : Bool) → (a && b) ≡ true → b ≡ true
+and-right true b e = e
+and-right false b e = absurd (false≢true e)

@@ -4,3 +4,4 @@ pub mod Sizes
 pub mod Refusals
 pub mod Judging
 pub mod Answers
+pub mod Closing

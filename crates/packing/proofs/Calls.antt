@@ -1,0 +1,85 @@
+-- A call that has passed its own rules answers and leaves what storing its result does, where only 7 can refuse.
+-- Assumes nothing.
+use mathlib.Core.Path.{_≡_, refl, sym, ap, _∙_}
+use mathlib.Core.Bool.{Bool, true, false, and-false}
+use mathlib.Core.List.{List, [], _∷_}
+use Prim.Native.Nat.{ℕ, _≤_, _<_, _%_}
+use native.Mathlib.Omega.{arith}
+use native.Mathlib.Decide.{decLe}
+use borrow.Author.Tests.{le-ltb, ne-eqb, eqb-true, leb-true, leb-false}
+use lib.Dec.{ltb, leb, eqb}
+use lib.ListN.{length, getD, List·getD-eq-default}
+use Rattle.words.specs.declared.Service.{Service}
+use Rattle.words.specs.declared.Service.the-variants.{ShortMessage, Broadcast, Ussd, OldPage}
+use Rattle.words.specs.declared.Filled.{Filled}
+use Rattle.words.specs.declared.Filled.the-variants.{Done, Refused}
+use Rattle.words.specs.declared.Refusal.the-variants.{NoRoom}
+use Rattle.words.specs.Sizes.{mostSeptets, mostUnits}
+use Rattle.words.specs.Lists.{firstPlace}
+use Rattle.words.specs.Judging.{when, verdict, settle}
+use Rattle.words.proofs.Below.{Below}
+use Rattle.words.proofs.Places.{place-before}
+use Rattle.words.proofs.Tests.{and-left, and-right}
+use Rattle.packing.specs.declared.Packed.the-variants as packed
+use Rattle.stream.specs.Stream.{octetsFor}
+use Rattle.packing.specs.SeptetCalls.{isOldPage, octetsOf, countOf, packRules, packAnswers, packLeaves, septetsFit, septetsOf, unpackRules, unpackAnswers, unpackLeaves}
+use Rattle.packing.specs.UnitCalls.{ucs2OctetsOf, toOctetsRules, toOctetsAnswers, toOctetsLeaves, unitsFit, unitsOf, toUnitsRules, toUnitsAnswers, toUnitsLeaves}
+use Rattle.packing.specs.Inner.{countedAs, givenAnswers, givenLeaves}
+use Rattle.packing.proofs.Given.{Gives}
+
+counted-settled : (b : Bool) (k n : ℕ) → countedAs (settle (verdict (when b NoRoom ∷ [])) Refused (Done k)) n ≡ settle (verdict (when b NoRoom ∷ [])) packed.Refused (packed.Done k n)
+unfolding verdict
+counted-settled true k n = refl
+counted-settled false k n = refl
+
+pub pack-passed : (service : Service) (s out : List ℕ) {answer : Filled} {left : List ℕ} → isOldPage service ≡ false → length s ≤ firstPlace (leb 128) s → length s ≤ mostSeptets service
+    → Gives (octetsOf service s) out answer left
+    → (countedAs answer (countOf service s) ≡ packAnswers service s (length out)) × (left ≡ packLeaves service s out)
+unfolding packRules packAnswers packLeaves givenAnswers givenLeaves verdict
+pack-passed service s out old high most gives =
+    simp (old, le-ltb _ _ high, le-ltb _ _ most)
+    (ap (λ (a : Filled). countedAs a (countOf service s)) (gives .0) ∙ counted-settled (ltb (length out) (length (octetsOf service s))) (length (octetsOf service s)) (countOf service s), gives .1)
+
+pub unpack-passed : (service : Service) (o out : List ℕ) (count : ℕ) {answer : Filled} {left : List ℕ} → septetsFit service (length o) count ≡ true
+    → Gives (septetsOf service count o) out answer left
+    → (answer ≡ unpackAnswers service o count (length out)) × (left ≡ unpackLeaves service o count out)
+unfolding unpackRules unpackAnswers unpackLeaves givenAnswers givenLeaves verdict
+unpack-passed service o out count fits gives = simp fits gives
+
+pub to-octets-passed : (service : Service) (us out : List ℕ) {answer : Filled} {left : List ℕ} → isOldPage service ≡ false → length us ≤ mostUnits service
+    → Gives (ucs2OctetsOf service us) out answer left
+    → (answer ≡ toOctetsAnswers service us (length out)) × (left ≡ toOctetsLeaves service us out)
+unfolding toOctetsRules toOctetsAnswers toOctetsLeaves givenAnswers givenLeaves verdict
+to-octets-passed service us out old most gives = simp (old, le-ltb _ _ most) gives
+
+pub to-units-passed : (service : Service) (o out : List ℕ) (count : ℕ) {answer : Filled} {left : List ℕ} → unitsFit service (length o) count ≡ true
+    → Gives (unitsOf service o) out answer left
+    → (answer ≡ toUnitsAnswers service o count (length out)) × (left ≡ toUnitsLeaves service o count out)
+unfolding toUnitsRules toUnitsAnswers toUnitsLeaves givenAnswers givenLeaves verdict
+to-units-passed service o out count fits gives = simp fits gives
+
+-- ---- what octets that fit tell, service by service
+
+pub fit-short : (m n : ℕ) → septetsFit ShortMessage m n ≡ true → m ≡ octetsFor n
+fit-short m n e = eqb-true m (octetsFor n) (and-right (leb n 160) (eqb m (octetsFor n)) e)
+
+pub fit-page : (m n : ℕ) → septetsFit Broadcast m n ≡ true → m ≡ 82
+fit-page m n e = eqb-true m 82 (and-left (eqb m 82) (eqb n 0) e)
+
+pub fit-ussd : (m n : ℕ) → septetsFit Ussd m n ≡ true → m ≤ 160
+fit-ussd m n e = leb-true m 160 (and-left (leb m 160) (eqb n 0) e)
+
+pub fit-units : (m n : ℕ) → unitsFit Broadcast m n ≡ true → m ≡ 82
+fit-units m n e = eqb-true m 82 (and-left (eqb m 82) (eqb n 0) e)
+
+-- an odd number of octets fits no service
+pub odd-unfit : (service : Service) (m n : ℕ) → m % 2 ≡ 1 → false ≡ unitsFit service m n
+odd-unfit ShortMessage m n e = simp (ne-eqb (m % 2) 0 (omega arith), and-false)
+odd-unfit Broadcast m n e = simp (ne-eqb m 82 (omega arith))
+odd-unfit Ussd m n e = simp (ne-eqb (m % 2) 0 (omega arith), and-false)
+odd-unfit OldPage m n e = refl
+
+-- where no septet is 128 or more, all are below
+pub none-high : (s : List ℕ) → length s ≤ firstPlace (leb 128) s → Below 128 s
+none-high s h k =
+    elim (decLe (length s) k) [ yes l ↦ omega (arith, List·getD-eq-default s 0 l) | no l ↦ leb-false 128 (getD s k 0) (place-before (leb 128) s k (omega arith)) ]

@@ -1,0 +1,4 @@
+pub mod Answers
+pub mod SeptetCalls
+pub mod UnitCalls
+pub mod Inner

@@ -1,0 +1,111 @@
+// UCS2 units as octets, high octet first, and the page of 41 units.
+ghost use mathlib.Core.Path.{_≡_};
+ghost use Prim.Native.Nat.{ℕ, _+_, _-_, _*_, _/_, _%_, _^_, _≤_, _<_};
+ghost use lib.ListN.{length, take, getD};
+ghost use Rattle.words.specs.Closing.{withoutClosing};
+ghost use Rattle.stream.specs.Ucs2.{unitOctets, octetUnits, unitPage};
+ghost use Rattle.packing.specs.UnitCalls.{unitsFit};
+ghost use Rattle.packing.specs.Inner.{givenAnswers, givenLeaves};
+use words::Filled;
+use words::Refusal;
+use words::Service;
+
+// Stores the octets of units.
+pub(crate) fn put_units(units: &[u16], out: &mut [u8]) -> Filled
+    requires { ⌜ length (now units) ≤ 80 ⌝ }
+    ensures { λ r. ⌜ r ≡ givenAnswers (unitOctets (now (units .entry))) (length (now (out .entry))) ⌝ }
+    ensures { λ r. ⌜ now (out .exit) ≡ givenLeaves (unitOctets (now (units .entry))) (now (out .entry)) ⌝ }
+{
+    let n = units.len();
+    if out.len() < 2 * n {
+        return Filled::Refused(Refusal::NoRoom);
+    }
+    let mut i: usize = 0;
+    while i < n {
+        let unit = units[i];
+        out[2 * i] = (unit >> 8) as u8;
+        out[2 * i + 1] = (unit & 0xff) as u8;
+        i += 1;
+    }
+    Filled::Done(2 * n)
+}
+
+// The page of a text: 41 units 000D, and the text over the front.
+fn lay(units: &[u16]) -> [u16; 41]
+    requires { ⌜ length (now units) ≤ 41 ⌝ }
+    ensures { λ r. ⌜ r ≡ unitPage (now (units .entry)) ⌝ }
+{
+    let mut page = [13u16; 41];
+    let mut i: usize = 0;
+    while i < units.len() {
+        page[i] = units[i];
+        i += 1;
+    }
+    page
+}
+
+// Stores the octets of the page of a text.
+pub(crate) fn put_page(units: &[u16], out: &mut [u8]) -> Filled
+    requires { ⌜ length (now units) ≤ 41 ⌝ }
+    ensures { λ r. ⌜ r ≡ givenAnswers (unitOctets (unitPage (now (units .entry)))) (length (now (out .entry))) ⌝ }
+    ensures { λ r. ⌜ now (out .exit) ≡ givenLeaves (unitOctets (unitPage (now (units .entry)))) (now (out .entry)) ⌝ }
+{
+    let page = lay(units);
+    put_units(&page, out)
+}
+
+// Whether so many octets fit the service and the count. An odd number fits none: a page has 82.
+pub(crate) fn fits(service: Service, octets: usize, count: usize) -> bool
+    ensures { λ r. ⌜ r ≡ unitsFit service octets count ⌝ }
+{
+    if octets % 2 == 1 {
+        return false;
+    }
+    let most = service.most_octets();
+    match service {
+        Service::ShortMessage => octets <= most && count == octets,
+        Service::Broadcast => octets == most && count == 0,
+        Service::Ussd => octets <= most && count == 0,
+        Service::OldPage => false,
+    }
+}
+
+// How many units of a page are left without the 000D that close it.
+pub(crate) fn page_kept(octets: &[u8]) -> usize
+    requires { ⌜ length (now octets) ≡ 82 ⌝ }
+    ensures { λ r. ⌜ r ≡ length (withoutClosing 13 (octetUnits (now (octets .entry)))) ⌝ }
+{
+    let mut n: usize = 41;
+    while 0 < n {
+        if unit_at(octets, n - 1) != 13 {
+            return n;
+        }
+        n -= 1;
+    }
+    n
+}
+
+// The unit at a place.
+fn unit_at(octets: &[u8], i: usize) -> u16
+    requires { ⌜ 2 * i + 1 < length (now octets) ⌝ }
+    ensures { λ r. ⌜ r ≡ getD (octetUnits (now (octets .entry))) i 0 ⌝ }
+{
+    ((octets[2 * i] as u16) << 8) | (octets[2 * i + 1] as u16)
+}
+
+// Stores the first n units that octets hold.
+pub(crate) fn get_units(octets: &[u8], n: usize, out: &mut [u16]) -> Filled
+    requires { ⌜ 2 * n ≤ length (now octets) ⌝ }
+    ensures { λ r. ⌜ r ≡ givenAnswers (take n (octetUnits (now (octets .entry)))) (length (now (out .entry))) ⌝ }
+    ensures { λ r. ⌜ now (out .exit) ≡ givenLeaves (take n (octetUnits (now (octets .entry)))) (now (out .entry)) ⌝ }
+{
+    if out.len() < n {
+        return Filled::Refused(Refusal::NoRoom);
+    }
+    let mut i: usize = 0;
+    while i < n {
+        out[i] = unit_at(octets, i);
+        i += 1;
+    }
+    Filled::Done(n)
+}

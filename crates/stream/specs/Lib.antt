@@ -1,0 +1,5 @@
+pub mod Stream
+pub mod UssdPacking
+pub mod Pages
+pub mod Ucs2
+pub mod Inner

@@ -1,0 +1,25 @@
+-- Document 01, "Packing": the 93 septets of a broadcast page, and of an old page of 1991, in 82 octets.
+-- Own rule: none. Cited by packing::pack and packing::unpack. Assumes nothing.
+--   page s           == the 93 septets of a page with the text s
+--   pageOctets s     == the octets of that page; its last five bits are spare
+--   pageSeptets o    == the text of the page whose octets are o: every closing CR is dropped
+--   oldPageSeptets o == the text of the old page whose octets are o: every closing zero septet is dropped
+use Prim.Native.Nat.{ℕ}
+use mathlib.Core.List.{List}
+use lib.ListN.{replicate}
+use Rattle.words.specs.Lists.{laid}
+use Rattle.words.specs.Closing.{withoutClosing}
+use Rattle.stream.specs.Stream.{packed, unpacked}
+
+-- "a page starts as 93 septets, all CR, and the text is laid over its front"
+unfoldable pub page : List ℕ → List ℕ
+page s = laid s (replicate 93 13)
+
+unfoldable pub pageOctets : List ℕ → List ℕ
+pageOctets s = packed (page s)
+
+unfoldable pub pageSeptets : List ℕ → List ℕ
+pageSeptets o = withoutClosing 13 (unpacked 93 o)
+
+unfoldable pub oldPageSeptets : List ℕ → List ℕ
+oldPageSeptets o = withoutClosing 0 (unpacked 93 o)
