@@ -12,6 +12,7 @@ use lib.Dec.{T, eqb, leb, leb→le}
 use lib.ListN.{getD}
 use Rattle.words.specs.Bits.{bitOf, bitsFrom, bitsOf}
 use Rattle.words.specs.Lists.{firstPlace, numbersFrom}
+use Rattle.words.specs.Sizes.{isOldPage}
 use Rattle.words.specs.Judging.{verdict}
 use Rattle.words.specs.declared.Service.{Service}
 use Rattle.words.specs.declared.Service.the-variants.{ShortMessage, Broadcast, Ussd, OldPage}
@@ -21,7 +22,7 @@ use Rattle.words.proofs.Places.{place-before, place-holds, place-most, numbers-
 use Rattle.coding.specs.declared.Reading.{Reading}
 use Rattle.coding.specs.declared.OctetWritten.the-variants.{Done, Refused}
 use Rattle.coding.specs.OctetRead.{classIn, discardIn, storeIn, generalReading, noticeReading, lastReading, readShort, readPage, readUnder}
-use Rattle.coding.specs.OctetWritten.{sameReading, isOldPage, smallest, writeRules, octetWrites}
+use Rattle.coding.specs.OctetWritten.{sameReading, smallest, writeRules, octetWrites}
 use Rattle.coding.specs.Inner.{keyOf, shortKey, pageKey, generalTry, shortTry, pageTry, checkedOctet}
 use Rattle.coding.proofs.Same.{same-sound, same-key}
 use Rattle.coding.proofs.Octets.{short-key-is, page-key-is}

@@ -13,6 +13,7 @@ use native.Mathlib.Omega.{arith}
 use borrow.Author.Tests.{eq-eqb}
 use lib.Dec.{T, eqb}
 use Rattle.words.specs.Lists.{firstPlace, numbersFrom}
+use Rattle.words.specs.Sizes.{isOldPage}
 use Rattle.words.specs.Judging.{when, verdict, settle}
 use Rattle.words.specs.declared.Service.{Service}
 use Rattle.words.specs.declared.Service.the-variants.{ShortMessage, Broadcast, Ussd, OldPage}
@@ -25,7 +26,7 @@ use Rattle.coding.specs.declared.OctetWritten.the-variants.{Done, Refuse
 use Rattle.coding.specs.OctetRead.{classIn, discardIn, storeIn, generalReading, noticeReading, lastReading, readShort, readPage, readUnder, octetReads}
 use Rattle.words.specs.Bits.{bitOf, bitsFrom, bitsOf}
 use Rattle.words.proofs.Tests.{both}
-use Rattle.coding.specs.OctetWritten.{sameReading, isOldPage, smallest, writeRules, octetWrites}
+use Rattle.coding.specs.OctetWritten.{sameReading, smallest, writeRules, octetWrites}
 use Rattle.coding.proofs.Same.{same-sound, same-complete}
 use Rattle.coding.proofs.Smallest.{found-reads, found-least, write-found}
 

@@ -10,9 +10,9 @@ use mathlib.Core.Bool.{Bool, true, false, cond}
 use mathlib.Core.List.{List, [], _∷_}
 use lib.Dec.{eqb}
 use Rattle.words.specs.Lists.{firstPlace, numbersFrom}
+use Rattle.words.specs.Sizes.{isOldPage}
 use Rattle.words.specs.Judging.{Rule, when, verdict, settle}
 use Rattle.words.specs.declared.Service.{Service}
-use Rattle.words.specs.declared.Service.the-variants.{ShortMessage, Broadcast, Ussd, OldPage}
 use Rattle.words.specs.declared.Refusal.the-variants.{Unwritable}
 use Rattle.coding.specs.declared.Reading.{Reading}
 use Rattle.coding.specs.declared.OctetWritten.{OctetWritten}
@@ -34,12 +34,6 @@ sameReading a b =
 
 unfoldable pub smallest : Service → Reading → ℕ
 smallest s r = firstPlace (λ (o : ℕ). sameReading (readUnder s o) r) (numbersFrom 0 256)
-
-abbrev pub isOldPage : Service → Bool
-isOldPage ShortMessage = false
-isOldPage Broadcast = false
-isOldPage Ussd = false
-isOldPage OldPage = true
 
 unfoldable pub writeRules : Service → Reading → List Rule
 writeRules s r =

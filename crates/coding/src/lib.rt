@@ -576,7 +576,7 @@ fn page_try(key: u32) -> u8
     if key / 262144 % 2 == 1 {
         return (0x10 + alphabet / 2) as u8;
     }
-    if alphabet == 3 {
+    if alphabet == WAP {
         return 0xe0;
     }
     let general = general_try(key);

@@ -1,0 +1,46 @@
+use borrow.Author.Needs.{needs}
+use Rattle.message.proofs.pack_septets.Statement.{statement}
+use Rattle.message.proofs.pack_septets.Tie as tie
+use Rattle.message.proofs.pack_septets.Reads as reads
+use Rattle.message.proofs.pack_septets.Lts as lts
+use Rattle.packing.proofs.pack.Reads as pack-reads
+
+-- src/lib.rt:213:11
+pack-requires : tie.Need-pack-requires
+pack-requires c κs = search needs
+
+-- src/lib.rt:214:24
+enum-known-octets : tie.Need-enum-known-octets
+enum-known-octets c = search needs
+
+-- src/lib.rt:219:25
+enum-known-refusal : tie.Need-enum-known-refusal
+enum-known-refusal c = search needs
+
+-- src/lib.rt:209:1
+same-length : tie.Need-same-length
+same-length c = search needs
+
+-- src/lib.rt:209:1
+returns : tie.Need-returns
+returns c = ?
+
+-- src/lib.rt:209:1
+same-length-2 : tie.Need-same-length-2
+same-length-2 c = search needs
+
+-- src/lib.rt:209:1
+returns-2 : tie.Need-returns-2
+returns-2 c = ?
+
+pub pack-septets-spec : {M : Type 1} → statement M
+pack-septets-spec =
+    tie.close
+    (tie.spec
+    pack-requires
+    enum-known-octets
+    enum-known-refusal
+    same-length
+    returns
+    same-length-2
+    returns-2)

@@ -1,0 +1,79 @@
+use borrow.Author.Needs.{needs}
+use Rattle.message.proofs.read_held.Statement.{statement}
+use Rattle.message.proofs.read_held.Tie as tie
+use Rattle.message.proofs.read_held.Reads as reads
+use Rattle.message.proofs.read_held.Lts as lts
+use Rattle.coding.proofs.Reading.holds.Reads as holds-reads
+use Rattle.message.proofs.read_septets.Reads as read-septets-reads
+use Rattle.message.proofs.shown.Reads as shown-reads
+use Rattle.packing.proofs.octets_to_units.Reads as octets-to-units-reads
+
+-- src/lib.rt:71:11
+holds-requires : tie.Need-holds-requires
+holds-requires c κs = search needs
+
+-- src/lib.rt:72:78
+enum-told : tie.Need-enum-told
+enum-told c = search needs
+
+-- src/lib.rt:72:41
+read-septets-requires : tie.Need-read-septets-requires
+read-septets-requires c κs = search needs
+
+-- src/lib.rt:72:26
+shown-requires : tie.Need-shown-requires
+shown-requires c κs = search needs
+
+-- src/lib.rt:73:88
+enum-told-2 : tie.Need-enum-told-2
+enum-told-2 c = search needs
+
+-- src/lib.rt:73:39
+octets-to-units-requires : tie.Need-octets-to-units-requires
+octets-to-units-requires c κs = search needs
+
+-- src/lib.rt:73:24
+shown-requires-2 : tie.Need-shown-requires-2
+shown-requires-2 c κs = search needs
+
+-- src/lib.rt:74:23
+enum-known-refusal : tie.Need-enum-known-refusal
+enum-known-refusal c = search needs
+
+-- src/lib.rt:61:1
+same-length : tie.Need-same-length
+same-length c = search needs
+
+-- src/lib.rt:61:1
+returns : tie.Need-returns
+returns c = ?
+
+-- src/lib.rt:61:1
+same-length-2 : tie.Need-same-length-2
+same-length-2 c = search needs
+
+-- src/lib.rt:61:1
+returns-2 : tie.Need-returns-2
+returns-2 c = ?
+
+-- src/lib.rt:61:1
+returns-3 : tie.Need-returns-3
+returns-3 c = ?
+
+pub read-held-spec : {M : Type 1} → statement M
+read-held-spec =
+    tie.close
+    (tie.spec
+    holds-requires
+    enum-told
+    read-septets-requires
+    shown-requires
+    enum-told-2
+    octets-to-units-requires
+    shown-requires-2
+    enum-known-refusal
+    same-length
+    returns
+    same-length-2
+    returns-2
+    returns-3)

@@ -1,0 +1,92 @@
+use borrow.Author.Needs.{needs}
+use Rattle.message.proofs.show_septets.Statement.{statement}
+use Rattle.message.proofs.show_septets.Tie as tie
+use Rattle.message.proofs.show_septets.Reads as reads
+use Rattle.message.proofs.show_septets.Lts as lts
+use Rattle.alphabet.proofs.old_page_to_text.Reads as old-page-to-text-reads
+use Rattle.alphabet.proofs.septets_to_text.Reads as septets-to-text-reads
+
+-- src/lib.rt:106:69
+enum-told : tie.Need-enum-told
+enum-told c = search needs
+
+-- src/lib.rt:106:34
+septets-to-text-requires : tie.Need-septets-to-text-requires
+septets-to-text-requires c κs = search needs
+
+-- src/lib.rt:107:66
+enum-told-2 : tie.Need-enum-told-2
+enum-told-2 c = search needs
+
+-- src/lib.rt:107:31
+septets-to-text-requires-2 : tie.Need-septets-to-text-requires-2
+septets-to-text-requires-2 c κs = search needs
+
+-- src/lib.rt:108:61
+enum-told-3 : tie.Need-enum-told-3
+enum-told-3 c = search needs
+
+-- src/lib.rt:108:26
+septets-to-text-requires-3 : tie.Need-septets-to-text-requires-3
+septets-to-text-requires-3 c κs = search needs
+
+-- src/lib.rt:109:65
+enum-told-4 : tie.Need-enum-told-4
+enum-told-4 c = search needs
+
+-- src/lib.rt:109:29
+old-page-to-text-requires : tie.Need-old-page-to-text-requires
+old-page-to-text-requires c κs = search needs
+
+-- src/lib.rt:101:1
+same-length : tie.Need-same-length
+same-length c = search needs
+
+-- src/lib.rt:101:1
+returns : tie.Need-returns
+returns c = ?
+
+-- src/lib.rt:101:1
+same-length-2 : tie.Need-same-length-2
+same-length-2 c = search needs
+
+-- src/lib.rt:101:1
+returns-2 : tie.Need-returns-2
+returns-2 c = ?
+
+-- src/lib.rt:101:1
+same-length-3 : tie.Need-same-length-3
+same-length-3 c = search needs
+
+-- src/lib.rt:101:1
+returns-3 : tie.Need-returns-3
+returns-3 c = ?
+
+-- src/lib.rt:101:1
+same-length-4 : tie.Need-same-length-4
+same-length-4 c = search needs
+
+-- src/lib.rt:101:1
+returns-4 : tie.Need-returns-4
+returns-4 c = ?
+
+pub show-septets-spec : {M : Type 1} → statement M
+show-septets-spec =
+    tie.close
+    (tie.spec
+    enum-told
+    septets-to-text-requires
+    enum-told-2
+    septets-to-text-requires-2
+    enum-told-3
+    septets-to-text-requires-3
+    enum-told-4
+    old-page-to-text-requires
+    same-length
+    returns
+    same-length-2
+    returns-2
+    same-length-3
+    returns-3
+    same-length-4
+    returns-4)

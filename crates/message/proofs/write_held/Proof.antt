@@ -1,0 +1,74 @@
+use borrow.Author.Needs.{needs}
+use Rattle.message.proofs.write_held.Statement.{statement}
+use Rattle.message.proofs.write_held.Tie as tie
+use Rattle.message.proofs.write_held.Reads as reads
+use Rattle.message.proofs.write_held.Lts as lts
+use Rattle.coding.proofs.Reading.holds.Reads as holds-reads
+use Rattle.message.proofs.counted.Reads as counted-reads
+use Rattle.message.proofs.write_septets.Reads as write-septets-reads
+use Rattle.packing.proofs.units_to_octets.Reads as units-to-octets-reads
+
+-- src/lib.rt:144:11
+holds-requires : tie.Need-holds-requires
+holds-requires c κs = search needs
+
+-- src/lib.rt:145:64
+enum-told : tie.Need-enum-told
+enum-told c = search needs
+
+-- src/lib.rt:145:26
+write-septets-requires : tie.Need-write-septets-requires
+write-septets-requires c κs = search needs
+
+-- src/lib.rt:146:90
+enum-told-2 : tie.Need-enum-told-2
+enum-told-2 c = search needs
+
+-- src/lib.rt:146:49
+units-to-octets-requires : tie.Need-units-to-octets-requires
+units-to-octets-requires c κs = search needs
+
+-- src/lib.rt:146:24
+counted-requires : tie.Need-counted-requires
+counted-requires c κs = search needs
+
+-- src/lib.rt:147:23
+enum-known-refusal : tie.Need-enum-known-refusal
+enum-known-refusal c = search needs
+
+-- src/lib.rt:133:1
+same-length : tie.Need-same-length
+same-length c = search needs
+
+-- src/lib.rt:133:1
+returns : tie.Need-returns
+returns c = ?
+
+-- src/lib.rt:133:1
+same-length-2 : tie.Need-same-length-2
+same-length-2 c = search needs
+
+-- src/lib.rt:133:1
+returns-2 : tie.Need-returns-2
+returns-2 c = ?
+
+-- src/lib.rt:133:1
+returns-3 : tie.Need-returns-3
+returns-3 c = ?
+
+pub write-held-spec : {M : Type 1} → statement M
+write-held-spec =
+    tie.close
+    (tie.spec
+    holds-requires
+    enum-told
+    write-septets-requires
+    enum-told-2
+    units-to-octets-requires
+    counted-requires
+    enum-known-refusal
+    same-length
+    returns
+    same-length-2
+    returns-2
+    returns-3)

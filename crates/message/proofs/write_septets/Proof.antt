@@ -1,0 +1,68 @@
+use borrow.Author.Needs.{needs}
+use Rattle.message.proofs.write_septets.Statement.{statement}
+use Rattle.message.proofs.write_septets.Tie as tie
+use Rattle.message.proofs.write_septets.Reads as reads
+use Rattle.message.proofs.write_septets.Lts as lts
+use Rattle.alphabet.proofs.text_to_septets.Reads as text-to-septets-reads
+use Rattle.message.proofs.pack_septets.Reads as pack-septets-reads
+use Rattle.message.proofs.refused.Reads as refused-reads
+
+-- src/lib.rt:185:44
+slice-aggregate-text-to-septets : tie.Need-slice-aggregate-text-to-septets
+slice-aggregate-text-to-septets c = search needs
+
+-- src/lib.rt:185:11
+text-to-septets-requires : tie.Need-text-to-septets-requires
+text-to-septets-requires c κs = search needs
+
+-- src/lib.rt:186:22
+enum-known-n : tie.Need-enum-known-n
+enum-known-n c = search needs
+
+-- src/lib.rt:186:58
+array-share-prefix-septets : tie.Need-array-share-prefix-septets
+array-share-prefix-septets c = ?
+
+-- src/lib.rt:186:58
+slice-aggregate-pack-septets : tie.Need-slice-aggregate-pack-septets
+slice-aggregate-pack-septets c = ?
+
+-- src/lib.rt:186:28
+pack-septets-requires : tie.Need-pack-septets-requires
+pack-septets-requires c κs = search needs
+
+-- src/lib.rt:187:25
+enum-known-refusal : tie.Need-enum-known-refusal
+enum-known-refusal c = search needs
+
+-- src/lib.rt:187:61
+refused-requires : tie.Need-refused-requires
+refused-requires c κs = search needs
+
+-- src/lib.rt:179:1
+same-length : tie.Need-same-length
+same-length c = search needs
+
+-- src/lib.rt:179:1
+returns : tie.Need-returns
+returns c = ?
+
+-- src/lib.rt:179:1
+returns-2 : tie.Need-returns-2
+returns-2 c = ?
+
+pub write-septets-spec : {M : Type 1} → statement M
+write-septets-spec =
+    tie.close
+    (tie.spec
+    slice-aggregate-text-to-septets
+    text-to-septets-requires
+    enum-known-n
+    array-share-prefix-septets
+    slice-aggregate-pack-septets
+    pack-septets-requires
+    enum-known-refusal
+    refused-requires
+    same-length
+    returns
+    returns-2)

@@ -1,0 +1,4 @@
+pub mod MessageRead
+pub mod MessageWritten
+pub mod Reports
+pub mod Inner

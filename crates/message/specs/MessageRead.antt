@@ -1,0 +1,59 @@
+-- Document 01, "Refusal numbers and their order": the whole reader. 1, 2, 3, 4, 7.
+-- Own rule: none. Cited by read_message. Assumes nothing.
+--   fitsReading service r octets count == so many octets fit the service and the count, read as r
+--   textOfMessage service r count o    == the units that the octets o hold, read as r
+--   readRules service coding count o room == the refusals, where the lent buffer has that much room
+--   readAnswers, readLeaves            == what read_message answers, and what it leaves in the lent buffer
+use Prim.Native.Nat.{ℕ}
+use mathlib.Core.Bool.{Bool, true, false, not, cond}
+use mathlib.Core.List.{List, [], _∷_, _++_}
+use lib.Dec.{ltb}
+use lib.ListN.{length}
+use Rattle.words.specs.declared.Service.{Service}
+use Rattle.words.specs.declared.Service.the-variants.{ShortMessage, Broadcast, Ussd, OldPage}
+use Rattle.words.specs.declared.Refusal.the-variants.{WrongLength, NoRoom}
+use Rattle.words.specs.Sizes.{isOldPage}
+use Rattle.words.specs.Lists.{laid}
+use Rattle.words.specs.Judging.{Rule, when, verdict, settle}
+use Rattle.coding.specs.declared.Reading.{Reading}
+use Rattle.coding.specs.OctetRead.{octetRules, readUnder}
+use Rattle.coding.specs.Holding.{isUcs2, textRules}
+use Rattle.alphabet.specs.Reading.{textOf, oldTextOf}
+use Rattle.packing.specs.SeptetCalls.{septetsFit, septetsOf}
+use Rattle.packing.specs.UnitCalls.{unitsFit, unitsOf}
+use Rattle.message.specs.declared.MessageRead.{MessageRead}
+use Rattle.message.specs.declared.MessageRead.the-variants.{Done, Refused}
+
+abbrev pub fitsReading : Service → Reading → ℕ → ℕ → Bool
+fitsReading service r octets count = cond (isUcs2 (r .alphabet)) (unitsFit service octets count) (septetsFit service octets count)
+
+-- the septets of an old page read by the alphabet of 1991
+abbrev pub shownSeptets : Service → List ℕ → List ℕ
+shownSeptets service s = cond (isOldPage service) (oldTextOf s) (textOf s)
+
+abbrev pub textOfMessage : Service → Reading → ℕ → List ℕ → List ℕ
+textOfMessage service r count o = cond (isUcs2 (r .alphabet)) (unitsOf service o) (shownSeptets service (septetsOf service count o))
+
+-- 4 and 7, of octets that are read as r
+unfoldable pub lengthRules : Service → Reading → ℕ → List ℕ → ℕ → List Rule
+lengthRules service r count o room =
+    when (not (fitsReading service r (length o) count)) WrongLength
+    ∷ when (ltb room (length (textOfMessage service r count o))) NoRoom
+    ∷ []
+
+-- 1, 2, 3, 4, 7: of an old page only 2 can come before 4, since it reads as the unmentioned values
+unfoldable pub readRules : Service → ℕ → ℕ → List ℕ → ℕ → List Rule
+readRules service coding count o room =
+    octetRules service coding
+    ++ textRules (readUnder service coding)
+    ++ lengthRules service (readUnder service coding) count o room
+
+unfoldable pub readAnswers : Service → ℕ → ℕ → List ℕ → ℕ → MessageRead
+readAnswers service coding count o room =
+    settle (verdict (readRules service coding count o room)) Refused
+    (Done (length (textOfMessage service (readUnder service coding) count o)) (readUnder service coding))
+
+unfoldable pub readLeaves : Service → ℕ → ℕ → List ℕ → List ℕ → List ℕ
+readLeaves service coding count o out =
+    settle (verdict (readRules service coding count o (length out))) (λ r. out)
+    (laid (textOfMessage service (readUnder service coding) count o) out)
