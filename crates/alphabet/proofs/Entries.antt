@@ -42,6 +42,20 @@ same-is (Extension a) Unlisted t = absurd t
 same-is (Extension a) (Main b) t = absurd t
 same-is (Extension a) (Extension b) t = ap Extension (eqb→eq a b t)
 
+-- what an entry says, by the tests of the code
+module _ (k : ℕ) (l : Listed) (e : listing k ≡ l) where
+  pub entry-main : k < 0x80 → Main k ≡ l
+  unfolding listing
+  entry-main h = sym (simp (lt-ltb k 0x80 h)) ∙ e
+
+  pub entry-extension : 0x80 ≤ k → k < 0xff → Extension (k - 0x80) ≡ l
+  unfolding listing
+  entry-extension h below = sym (simp (le-ltb k 0x80 h, lt-ltb k 0xff below)) ∙ e
+
+  pub entry-none : 0xff ≤ k → Unlisted ≡ l
+  unfolding listing
+  entry-none h = let high : 0x80 ≤ k = omega arith in sym (simp (le-ltb k 0x80 high, le-ltb k 0xff h)) ∙ e
+
 -- an entry of a reverse table, at the unit that stands so far from the table's first
 unfoldable pub entryRight : ℕ → ℕ → ℕ → Bool
 entryRight first k entry = same (listing entry) (listedAs (first + k))

@@ -1,5 +1,5 @@
 // The tables of the alphabet as the code reads them, and how it reads them.
-// A function that looks up many units or codes takes its table once and lends it on.
+// A constant array is built anew wherever it is named, so a loop over units or codes takes its table once and lends it on.
 ghost use mathlib.Core.Path.{_≡_};
 ghost use Prim.Native.Nat.{_<_};
 ghost use Rattle.alphabet.specs.Writing.{listedAs};
@@ -139,7 +139,7 @@ const UNITS: [u16; 128] = [
     0x00e0,
 ];
 
-// For each unit below 0x100 its code, 0x80 and its code after an escape, or 0xff where it is unlisted.
+// For each unit below 0x100 its entry: the code, 0x80 and the code after an escape, or 0xff where it is unlisted.
 const LOW: [u8; 256] = [
     0xff,
     0xff,
@@ -433,7 +433,7 @@ pub(crate) fn unit_table() -> [u16; 128]
     UNITS
 }
 
-// The table of the units below 0x100, to be lent to find_in.
+// The table of the units below 0x100, to be lent to entry_of.
 pub(crate) fn low_table() -> [u8; 256]
     ensures answer { λ r. ⌜ RightFrom 0 0x100 r ⌝ }
 {
@@ -447,8 +447,8 @@ fn greek_table() -> [u8; 23]
     GREEK
 }
 
-// What an entry of a reverse table says.
-fn listed(entry: u8) -> Listed
+// What an entry says of its unit.
+pub(crate) fn listed(entry: u8) -> Listed
     ensures answer { λ r. ⌜ r ≡ listing entry ⌝ }
 {
     if entry < 0x80 {
@@ -460,26 +460,26 @@ fn listed(entry: u8) -> Listed
     Listed::Unlisted
 }
 
-// Where the tables list the unit: by direct index below 0x100 and among the Greek capitals, by a test for the euro sign.
-pub(crate) fn find_in(unit: u16, low: &[u8; 256]) -> Listed
+// The unit's entry: by direct index below 0x100 and among the Greek capitals, by a test for the euro sign.
+pub(crate) fn entry_of(unit: u16, low: &[u8; 256]) -> u8
     requires { ⌜ RightFrom 0 0x100 (now low) ⌝ }
-    ensures answer { λ r. ⌜ r ≡ listedAs unit ⌝ }
+    ensures answer { λ r. ⌜ listing r ≡ listedAs unit ⌝ }
 {
     let i = unit as usize;
     if i < 0x100 {
-        return listed(low[i]);
+        return low[i];
     }
     if i < 0x393 {
-        return Listed::Unlisted;
+        return 0xff;
     }
     if i < 0x3aa {
         let greek = greek_table();
-        return listed(greek[i - 0x393]);
+        return greek[i - 0x393];
     }
     if i == 0x20ac {
-        return Listed::Extension(0x65);
+        return 0xe5;
     }
-    Listed::Unlisted
+    0xff
 }
 
 // The code's unit of the main table, and a space for the escape.
