@@ -9,17 +9,18 @@ use native.Mathlib.Nat.{le-refl}
 use native.Mathlib.Omega.{arith}
 use lib.Dec.{T, eqb, ltb, eqb→eq}
 use lib.ListN.{length}
-use Rattle.words.specs.Lists.{firstPlace}
 use borrow.Author.Tests.{lt-ltb, le-ltb, ne-eqb}
+use Rattle.words.specs.Lists.{firstPlace}
 use Rattle.words.proofs.Tests.{everyEntry, every-entry}
 use Rattle.alphabet.specs.declared.Listed.{Listed}
 use Rattle.alphabet.specs.declared.Listed.the-variants.{Unlisted, Main, Extension}
 use Rattle.alphabet.specs.Tables.{mainTable, extension, codes, units, among}
 use Rattle.alphabet.specs.Writing.{listedAs}
 use Rattle.alphabet.specs.Reading.{afterEscape}
-use Rattle.alphabet.proofs.Among.{among-not}
 use Rattle.alphabet.specs.Inner.{listing, RightFrom, shown, RightUnits}
+use Rattle.alphabet.proofs.Among.{among-not}
 
+-- two places of a unit are the same
 abbrev pub same : Listed → Listed → Bool
 same Unlisted Unlisted = true
 same Unlisted (Main b) = false

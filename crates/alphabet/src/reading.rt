@@ -29,6 +29,7 @@ struct Step {
     next: usize,
 }
 
+// The unit that is read at i, and where reading goes on: a code of its own, an escape and a code, or an escape at the end.
 fn read_step(septets: &[u8], old: bool, i: usize, units: &[u16; 128]) -> Step
     requires { ⌜ RightUnits (now units) ⌝ }
     requires { ⌜ (i < length (now septets)) × (firstWide (now septets) ≡ length (now septets)) ⌝ }
