@@ -7,6 +7,7 @@ use Prim.Native.Nat.{ℕ, _<_}
 use native.Mathlib.Omega.{arith}
 use lib.Dec.{T, eqb, ltb, eqb→eq, ltb→lt, T-not, eqb-refl}
 use lib.ListN.{length, getD}
+use borrow.Author.Tests.{ne-eqb}
 use Rattle.words.specs.Lists.{firstPlace}
 use Rattle.words.proofs.Tests.{both, both-left, both-right, everyBelow, every-below}
 use Rattle.alphabet.specs.declared.Listed.{Listed}
@@ -85,3 +86,15 @@ by-tests u x y false false main ext = tt
 pub listed-reads : (u : ℕ) → ReadsAs (listedAs u) u
 unfolding listedAs
 listed-reads u = by-tests u _ _ (among (units mainTable) u) (among (units extension) u) (main-row u) (extension-row u)
+
+codeListed : ℕ → Bool
+codeListed code = cond (eqb code escape) true (among (codes mainTable) code)
+
+all-listed : T (everyBelow codeListed 128)
+unfolding codeListed among firstPlace mainTable
+all-listed = tt
+
+-- the main table lists every code but the escape
+pub main-complete : (code : ℕ) → code < 128 → (code ≡ escape → ⊥) → T (among (codes mainTable) code)
+unfolding codeListed
+main-complete code h ne = subst (λ (b : Bool). T (cond b true (among (codes mainTable) code))) (ne-eqb code escape ne) (every-below codeListed 128 all-listed code h)

@@ -16,7 +16,7 @@ use Rattle.words.proofs.Places.{place-before, place-most}
 use Rattle.words.proofs.Filling.{Fills, fills-refused}
 use Rattle.alphabet.specs.Tables.{escape, space}
 use Rattle.alphabet.specs.Reading.{mainUnit, afterEscape, textOf, textEscaped, oldUnit, firstWide}
-use Rattle.alphabet.specs.Inner.{shown, readAs, Stepped}
+use Rattle.alphabet.specs.Inner.{shown, readAs, firstRead, Stepped}
 
 -- septets of which none is 128 or more
 pub narrow-at : (s : List ℕ) → firstWide s ≡ length s → (k : ℕ) → k < length s → getD s k 0 < 128
@@ -138,3 +138,11 @@ refused-wide s text out a e h =
 
 pub none-wide : (s : List ℕ) (a : ℕ) → a ≡ firstWide s → length s ≤ a → ltb (firstWide s) (length s) ≡ false
 none-wide s a e h = le-ltb (firstWide s) (length s) (omega arith)
+
+pub stepped-first : {old : Bool} {s : List ℕ} {i u next : ℕ} → Stepped old s i u next → Stepped old s i (firstRead old s i) next
+stepped-first {old} {s} {i} {u} {next} step =
+    record {
+      reads = step .reads ∙ ap (λ (x : ℕ). x ∷ readAs old (drop next s)) (sym (ap (λ (xs : List ℕ). getD xs 0 0) (step .reads)));
+      on = step .on;
+      within = step .within;
+    }

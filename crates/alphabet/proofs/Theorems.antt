@@ -1,17 +1,17 @@
 -- What the tables and the definitions of writing and reading promise, in statements that can be read one by one.
 -- Assumes nothing.
---   units-once           == no unit stands at two codes, over both tables
---   listed-main, -extension == so each row is the way to write its unit
---   text-septets         == reading the septets of a text gives the text back
---   septets-injective    == text to septets is one to one
---   septets-least, -most == a text of k units takes from k to 2k septets
---   septets-below        == every septet is below 128
---   septets-append       == the septets of two texts, one after the other
---   septets-closing      == closing CR units are closing CR septets
---   septets-cr-last      == a last septet CR is the whole of the last unit, which is CR
---   septets-cr-iff       == the septets end in CR exactly where the text does
---   no-escape-end        == no septets end in an escape
---   no-escape-cr-end     == no septets end in an escape and a CR
+--   units-once                    == no unit stands at two codes, over both tables
+--   listed-main, listed-extension == so each row of a table is the one way to write its unit
+--   text-septets                  == reading the septets of a text gives the text back
+--   septets-injective             == text to septets is one to one
+--   septets-least, septets-most   == a text of k units takes from k to 2k septets
+--   septets-below                 == every septet is below 128
+--   septets-append                == the septets of a text and one after it
+--   septets-closing               == closing CR units are closing CR septets
+--   septets-cr-last               == a last septet CR is the whole of the last unit, which is CR
+--   septets-cr-iff                == the septets end in CR exactly where the text does
+--   no-escape-end                 == no septets end in an escape
+--   no-escape-cr-end              == no septets end in an escape and a CR
 use mathlib.Core.Path.{_≡_, refl, ap, _∙_, sym}
 use mathlib.Core.Bool.{Bool, true, false}
 use mathlib.Core.List.{List, [], _∷_, _++_, append-assoc, append-nil}

@@ -5,6 +5,7 @@
 --   shown code             == the code's unit of the main table, and a space for the escape
 --   RightUnits units       == units has at each code what is shown for it
 --   readAs old septets     == the text of the septets, read as an old page or as the present alphabet
+--   firstRead old s i      == the unit that reading s from place i on gives first
 --   Stepped old s i u next == reading s from place i on gives the unit u first, and goes on at next
 use mathlib.Core.Path.{_≡_}
 use Prim.Native.Nat.{ℕ, _+_, _-_, _<_, _≤_}
@@ -34,6 +35,10 @@ pub record RightUnits (units : List ℕ) : Type 0 where
 unfoldable pub readAs : Bool → List ℕ → List ℕ
 readAs true septets = oldTextOf septets
 readAs false septets = textOf septets
+
+-- the first unit of what is left from place i on
+abbrev pub firstRead : Bool → List ℕ → ℕ → ℕ
+firstRead old septets i = getD (readAs old (drop i septets)) 0 0
 
 pub record Stepped (old : Bool) (septets : List ℕ) (i unit next : ℕ) : Type 0 where
   pub reads : readAs old (drop i septets) ≡ unit ∷ readAs old (drop next septets)

@@ -1,15 +1,15 @@
 -- Document 01, "The alphabet" and "Refusal numbers and their order": septets to text, from left to right. Septets to text alone: 9, 7.
 -- Own rule: an escape with nothing after it is a space. Cited by septets_to_text and old_page_to_text. Assumes nothing.
---   mainUnit code                == the code's unit of the main table
---   afterEscape code             == the unit of an escape and that code
---   textOf septets               == the text of the septets
---   textEscaped septets          == the text of the septets that come after an escape
---   oldUnit code                 == the code's unit in an old page
---   oldTextOf septets            == the text of an old page's septets
---   firstWide septets            == the place of the first septet of 128 or more, and the number of septets where there is none
---   textRules septets text room  == the refusals, where the septets read as the text and the lent buffer has that much room
+--   mainUnit code                 == the code's unit of the main table
+--   afterEscape code              == the unit of an escape and that code
+--   textOf septets                == the text of the septets
+--   textEscaped septets           == the text of an escape and the septets after it
+--   oldUnit code                  == the code's unit in an old page
+--   oldTextOf septets             == the text of an old page's septets
+--   firstWide septets             == the place of the first septet of 128 or more, and the number of septets where there is none
+--   textRules septets text room   == the refusals, where the septets read as the text and the lent buffer has that much room
 --   textAnswers septets text room == what a call answers that reads the septets as the text
---   textLeaves septets text out  == what it leaves in the lent buffer
+--   textLeaves septets text out   == what it leaves in the lent buffer
 use Prim.Native.Nat.{ℕ}
 use mathlib.Core.Bool.{true, false, cond}
 use mathlib.Core.List.{List, [], _∷_, map}

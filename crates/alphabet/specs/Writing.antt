@@ -1,14 +1,15 @@
 -- Document 01, "The alphabet" and "Refusal numbers and their order": text to septets. "Writing uses the one code, or escape and code, listed
 -- for the unit." Text to septets alone: 6, 7.
 -- Own rule: none. Cited by find, septets_in and text_to_septets. Assumes nothing.
---   listedAs unit             == where the tables list the unit: the code of the main table, the code after an escape, or nowhere
---   septetsFor listed         == the septets of a unit that is so listed
---   septetsOf text            == the septets of a text; an unlisted unit has none
---   firstUnlisted text        == the place of the first unlisted unit, and the length of the text where there is none
---   measured text             == the number of septets, or the first unlisted unit
---   septetsRules text room    == the refusals, where the lent buffer has that much room
---   septetsAnswers text room  == what text_to_septets answers
---   septetsLeaves text out    == what it leaves in the lent buffer
+--   listedAs unit            == where the tables list the unit: the code of the main table, the code after an escape, or nowhere
+--   septetsFor listed        == the septets of a unit that is so listed
+--   septetsOf text           == the septets of a text; an unlisted unit has none
+--   isUnlisted listed        == whether it is nowhere
+--   firstUnlisted text       == the place of the first unlisted unit, and the length of the text where there is none
+--   measured text            == the number of septets, or the first unlisted unit
+--   septetsRules text room   == the refusals, where the lent buffer has that much room
+--   septetsAnswers text room == what text_to_septets answers
+--   septetsLeaves text out   == what it leaves in the lent buffer
 use Prim.Native.Nat.{ℕ}
 use mathlib.Core.Bool.{Bool, true, false, cond}
 use mathlib.Core.List.{List, [], _∷_, _++_}

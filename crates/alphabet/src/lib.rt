@@ -33,7 +33,8 @@ pub fn find(unit: u16) -> Listed
     ensures answer { λ r. ⌜ r ≡ listedAs unit ⌝ }
 {
     let low = tables::low_table();
-    tables::find_in(unit, &low)
+    let entry = tables::entry_of(unit, &low);
+    tables::listed(entry)
 }
 
 // The number of septets that the text takes, or its first unlisted unit.

@@ -4,7 +4,7 @@ ghost use Prim.Native.Nat.{_≤_, _<_};
 ghost use lib.ListN.{length};
 ghost use Rattle.words.specs.Lists.{laid};
 ghost use Rattle.alphabet.specs.Reading.{firstWide, textAnswers, textLeaves};
-ghost use Rattle.alphabet.specs.Inner.{RightUnits, readAs, Stepped};
+ghost use Rattle.alphabet.specs.Inner.{RightUnits, readAs, firstRead, Stepped};
 use crate::tables;
 use words::Filled;
 use words::Refusal;
@@ -13,14 +13,14 @@ use words::Refusal;
 fn first_wide(septets: &[u8]) -> usize
     ensures answer { λ r. ⌜ r ≡ firstWide (now (septets .entry)) ⌝ }
 {
-    let mut i = 0;
-    while i < septets.len() {
-        if septets[i] >= 128 {
-            return i;
+    let mut at = 0;
+    while at < septets.len() {
+        if septets[at] >= 128 {
+            return at;
         }
-        i += 1;
+        at += 1;
     }
-    i
+    at
 }
 
 // One unit, and the place where reading goes on.
@@ -29,6 +29,7 @@ struct Step {
     next: usize,
 }
 
+// The unit that is read at i, and where reading goes on: a code of its own, an escape and a code, or an escape at the end.
 fn read_step(septets: &[u8], old: bool, i: usize, units: &[u16; 128]) -> Step
     requires { ⌜ RightUnits (now units) ⌝ }
     requires { ⌜ (i < length (now septets)) × (firstWide (now septets) ≡ length (now septets)) ⌝ }
@@ -60,18 +61,33 @@ fn read_step(septets: &[u8], old: bool, i: usize, units: &[u16; 128]) -> Step
     }
 }
 
+// The place after the unit that is read at i.
+fn next_place(septets: &[u8], old: bool, i: usize) -> usize
+    requires { ⌜ i < length (now septets) ⌝ }
+    ensures answer { λ r. ⌜ Stepped old (now (septets .entry)) i (firstRead old (now (septets .entry)) i) r ⌝ }
+{
+    let j = i + 1;
+    if old {
+        return j;
+    }
+    if septets[i] != 0x1b {
+        return j;
+    }
+    if j == septets.len() {
+        return j;
+    }
+    j + 1
+}
+
 // The number of units that the septets read as.
 fn units_in(septets: &[u8], old: bool) -> usize
-    requires { ⌜ firstWide (now septets) ≡ length (now septets) ⌝ }
     ensures answer { λ r. ⌜ r ≡ length (readAs old (now (septets .entry))) ⌝ }
 {
-    let units = tables::unit_table();
     let mut n: usize = 0;
     let mut i = 0;
     while i < septets.len() {
-        let step = read_step(septets, old, i, &units);
+        i = next_place(septets, old, i);
         n += 1;
-        i = step.next;
     }
     n
 }

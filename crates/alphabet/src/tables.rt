@@ -1,5 +1,5 @@
 // The tables of the alphabet as the code reads them, and how it reads them.
-// A function that looks up many units or codes takes its table once and lends it on.
+// A constant array is built anew wherever it is named, so a loop over units or codes takes its table once and lends it on.
 ghost use mathlib.Core.Path.{_≡_};
 ghost use Prim.Native.Nat.{_<_};
 ghost use Rattle.alphabet.specs.Writing.{listedAs};
@@ -9,6 +9,7 @@ use crate::Listed;
 
 // The unit of each code of the main table, in document 01's order. At 1B, the escape, stands the space that an old page shows.
 const UNITS: [u16; 128] = [
+    // 00 to 0f
     0x0040,
     0x00a3,
     0x0024,
@@ -25,6 +26,7 @@ const UNITS: [u16; 128] = [
     0x000d,
     0x00c5,
     0x00e5,
+    // 10 to 1f
     0x0394,
     0x005f,
     0x03a6,
@@ -41,6 +43,7 @@ const UNITS: [u16; 128] = [
     0x00e6,
     0x00df,
     0x00c9,
+    // 20 to 2f
     0x0020,
     0x0021,
     0x0022,
@@ -57,6 +60,7 @@ const UNITS: [u16; 128] = [
     0x002d,
     0x002e,
     0x002f,
+    // 30 to 3f
     0x0030,
     0x0031,
     0x0032,
@@ -73,6 +77,7 @@ const UNITS: [u16; 128] = [
     0x003d,
     0x003e,
     0x003f,
+    // 40 to 4f
     0x00a1,
     0x0041,
     0x0042,
@@ -89,6 +94,7 @@ const UNITS: [u16; 128] = [
     0x004d,
     0x004e,
     0x004f,
+    // 50 to 5f
     0x0050,
     0x0051,
     0x0052,
@@ -105,6 +111,7 @@ const UNITS: [u16; 128] = [
     0x00d1,
     0x00dc,
     0x00a7,
+    // 60 to 6f
     0x00bf,
     0x0061,
     0x0062,
@@ -121,6 +128,7 @@ const UNITS: [u16; 128] = [
     0x006d,
     0x006e,
     0x006f,
+    // 70 to 7f
     0x0070,
     0x0071,
     0x0072,
@@ -139,8 +147,9 @@ const UNITS: [u16; 128] = [
     0x00e0,
 ];
 
-// For each unit below 0x100 its code, 0x80 and its code after an escape, or 0xff where it is unlisted.
+// For each unit below 0x100 its entry: the code, 0x80 and the code after an escape, or 0xff where it is unlisted.
 const LOW: [u8; 256] = [
+    // 00 to 0f
     0xff,
     0xff,
     0xff,
@@ -157,6 +166,7 @@ const LOW: [u8; 256] = [
     0x0d,
     0xff,
     0xff,
+    // 10 to 1f
     0xff,
     0xff,
     0xff,
@@ -173,6 +183,7 @@ const LOW: [u8; 256] = [
     0xff,
     0xff,
     0xff,
+    // 20 to 2f
     0x20,
     0x21,
     0x22,
@@ -189,6 +200,7 @@ const LOW: [u8; 256] = [
     0x2d,
     0x2e,
     0x2f,
+    // 30 to 3f
     0x30,
     0x31,
     0x32,
@@ -205,6 +217,7 @@ const LOW: [u8; 256] = [
     0x3d,
     0x3e,
     0x3f,
+    // 40 to 4f
     0x00,
     0x41,
     0x42,
@@ -221,6 +234,7 @@ const LOW: [u8; 256] = [
     0x4d,
     0x4e,
     0x4f,
+    // 50 to 5f
     0x50,
     0x51,
     0x52,
@@ -237,6 +251,7 @@ const LOW: [u8; 256] = [
     0xbe,
     0x94,
     0x11,
+    // 60 to 6f
     0xff,
     0x61,
     0x62,
@@ -253,6 +268,7 @@ const LOW: [u8; 256] = [
     0x6d,
     0x6e,
     0x6f,
+    // 70 to 7f
     0x70,
     0x71,
     0x72,
@@ -269,6 +285,7 @@ const LOW: [u8; 256] = [
     0xa9,
     0xbd,
     0xff,
+    // 80 to 8f
     0xff,
     0xff,
     0xff,
@@ -285,6 +302,7 @@ const LOW: [u8; 256] = [
     0xff,
     0xff,
     0xff,
+    // 90 to 9f
     0xff,
     0xff,
     0xff,
@@ -301,6 +319,7 @@ const LOW: [u8; 256] = [
     0xff,
     0xff,
     0xff,
+    // a0 to af
     0xff,
     0x40,
     0xff,
@@ -317,6 +336,7 @@ const LOW: [u8; 256] = [
     0xff,
     0xff,
     0xff,
+    // b0 to bf
     0xff,
     0xff,
     0xff,
@@ -333,6 +353,7 @@ const LOW: [u8; 256] = [
     0xff,
     0xff,
     0x60,
+    // c0 to cf
     0xff,
     0xff,
     0xff,
@@ -349,6 +370,7 @@ const LOW: [u8; 256] = [
     0xff,
     0xff,
     0xff,
+    // d0 to df
     0xff,
     0x5d,
     0xff,
@@ -365,6 +387,7 @@ const LOW: [u8; 256] = [
     0xff,
     0xff,
     0x1e,
+    // e0 to ef
     0x7f,
     0xff,
     0xff,
@@ -381,6 +404,7 @@ const LOW: [u8; 256] = [
     0xff,
     0xff,
     0xff,
+    // f0 to ff
     0xff,
     0x7d,
     0x08,
@@ -433,7 +457,7 @@ pub(crate) fn unit_table() -> [u16; 128]
     UNITS
 }
 
-// The table of the units below 0x100, to be lent to find_in.
+// The table of the units below 0x100, to be lent to entry_of.
 pub(crate) fn low_table() -> [u8; 256]
     ensures answer { λ r. ⌜ RightFrom 0 0x100 r ⌝ }
 {
@@ -447,8 +471,8 @@ fn greek_table() -> [u8; 23]
     GREEK
 }
 
-// What an entry of a reverse table says.
-fn listed(entry: u8) -> Listed
+// What an entry says of its unit.
+pub(crate) fn listed(entry: u8) -> Listed
     ensures answer { λ r. ⌜ r ≡ listing entry ⌝ }
 {
     if entry < 0x80 {
@@ -460,26 +484,26 @@ fn listed(entry: u8) -> Listed
     Listed::Unlisted
 }
 
-// Where the tables list the unit: by direct index below 0x100 and among the Greek capitals, by a test for the euro sign.
-pub(crate) fn find_in(unit: u16, low: &[u8; 256]) -> Listed
+// The unit's entry: by direct index below 0x100 and among the Greek capitals, by a test for the euro sign.
+pub(crate) fn entry_of(unit: u16, low: &[u8; 256]) -> u8
     requires { ⌜ RightFrom 0 0x100 (now low) ⌝ }
-    ensures answer { λ r. ⌜ r ≡ listedAs unit ⌝ }
+    ensures answer { λ r. ⌜ listing r ≡ listedAs unit ⌝ }
 {
     let i = unit as usize;
     if i < 0x100 {
-        return listed(low[i]);
+        return low[i];
     }
     if i < 0x393 {
-        return Listed::Unlisted;
+        return 0xff;
     }
     if i < 0x3aa {
         let greek = greek_table();
-        return listed(greek[i - 0x393]);
+        return greek[i - 0x393];
     }
     if i == 0x20ac {
-        return Listed::Extension(0x65);
+        return 0xe5;
     }
-    Listed::Unlisted
+    0xff
 }
 
 // The code's unit of the main table, and a space for the escape.

@@ -5,7 +5,6 @@ ghost use lib.ListN.{length};
 ghost use Rattle.words.specs.Lists.{laid};
 ghost use Rattle.alphabet.specs.Writing.{measured, septetsOf};
 ghost use Rattle.alphabet.specs.Inner.{RightFrom};
-use crate::Listed;
 use crate::Measured;
 use crate::tables;
 
@@ -14,24 +13,21 @@ pub(crate) fn measure(text: &[u16], low: &[u8; 256]) -> Measured
     requires { ⌜ RightFrom 0 0x100 (now low) ⌝ }
     ensures answer { λ r. ⌜ r ≡ measured (now (text .entry)) ⌝ }
 {
-    let mut n: usize = 0;
-    let mut i = 0;
-    while i < text.len() {
-        let listed = tables::find_in(text[i], low);
-        match listed {
-            Listed::Unlisted => {
-                return Measured::Stopped(i);
-            }
-            Listed::Main(_) => {
-                n += 1;
-            }
-            Listed::Extension(_) => {
-                n += 2;
-            }
+    let mut count: usize = 0;
+    let mut at = 0;
+    while at < text.len() {
+        let entry = tables::entry_of(text[at], low);
+        if entry == 0xff {
+            return Measured::Stopped(at);
         }
-        i += 1;
+        if entry < 0x80 {
+            count += 1;
+        } else {
+            count += 2;
+        }
+        at += 1;
     }
-    Measured::Septets(n)
+    Measured::Septets(count)
 }
 
 // Lays the septets of the text over the front of the buffer.
@@ -43,18 +39,14 @@ pub(crate) fn lay_septets(text: &[u16], low: &[u8; 256], out: &mut [u8])
     let mut n: usize = 0;
     let mut i = 0;
     while i < text.len() {
-        let listed = tables::find_in(text[i], low);
-        match listed {
-            Listed::Unlisted => {}
-            Listed::Main(code) => {
-                out[n] = code;
-                n += 1;
-            }
-            Listed::Extension(code) => {
-                out[n] = 0x1b;
-                out[n + 1] = code;
-                n += 2;
-            }
+        let entry = tables::entry_of(text[i], low);
+        if entry < 0x80 {
+            out[n] = entry;
+            n += 1;
+        } else if entry < 0xff {
+            out[n] = 0x1b;
+            out[n + 1] = entry - 0x80;
+            n += 2;
         }
         i += 1;
     }

@@ -22,7 +22,7 @@ returns c =
     refused-wide (a .septets .now) (readAs (a .old) (a .septets .now)) (a .out .now) (c .before .first-wide .result) (c .before .first-wide .ensures) (c .if1 .taken)
 
 units-in-requires : tie.Need-units-in-requires
-units-in-requires c κs = all-narrow (c .before .before .before .before .before .args .septets .now) _ (c .before .before .first-wide .ensures) (c .before .if1 .left)
+units-in-requires c κs = search needs
 
 returns-2 : tie.Need-returns-2
 unfolding textRules textAnswers textLeaves

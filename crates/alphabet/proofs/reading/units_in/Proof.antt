@@ -11,42 +11,30 @@ use Rattle.alphabet.proofs.reading.units_in.Statement.{statement}
 use Rattle.alphabet.proofs.reading.units_in.Tie as tie
 
 abbrev Inv-loop : tie.InvT-loop
-Inv-loop septets old units n₀ i₀ n i = (i ≤ length septets) × (n ≤ i) × (n + length (readAs old (drop i septets)) ≡ length (readAs old septets))
+Inv-loop septets old n₀ i₀ n i = (i ≤ length septets) × (n ≤ i) × (n + length (readAs old (drop i septets)) ≡ length (readAs old septets))
 
 abbrev μ-loop : tie.MeasureT-loop
-μ-loop septets old units n₀ i₀ n i = length septets - i
-
-unit-table-requires : tie.Need-unit-table-requires Inv-loop μ-loop
-unit-table-requires c κs = search needs
+μ-loop septets old n₀ i₀ n i = length septets - i
 
 loop-holds : tie.Need-loop-holds Inv-loop μ-loop
 loop-holds c = search needs
 
-read-step-requires : tie.Need-read-step-requires Inv-loop μ-loop
-read-step-requires c κs = (c .before .before .before .unit-table .ensures, (c .before .loop-test .taken, c .before .before .before .before .before .pre))
+next-place-requires : tie.Need-next-place-requires Inv-loop μ-loop
+next-place-requires c κs = c .loop-test .taken
 
 add-n : tie.Need-add-n Inv-loop μ-loop
-add-n c = omega (arith, c .read-step .ensures .on, c .read-step .ensures .within)
+add-n c = omega (arith, c .next-place .ensures .on, c .next-place .ensures .within)
 
 loop-less : tie.Need-loop-less Inv-loop μ-loop
-loop-less c = omega (arith, c .read-step .ensures .on, c .read-step .ensures .within)
+loop-less c = omega (arith, c .next-place .ensures .on, c .next-place .ensures .within)
 
 loop-again : tie.Need-loop-again Inv-loop μ-loop
-loop-again c = omega (arith, c .read-step .ensures .on, c .read-step .ensures .within, ap length (c .read-step .ensures .reads))
+loop-again c = omega (arith, c .next-place .ensures .on, c .next-place .ensures .within, ap length (c .next-place .ensures .reads))
 
 returns : tie.Need-returns Inv-loop μ-loop
-returns c = omega (arith, ap length (read-over (c .before .before .before .before .args .old) (c .before .before .before .before .args .septets .now) (c .before .loop .i) (c .loop-test .left)))
+returns c = let a = c .before .before .before .args in omega (arith, ap length (read-over (a .old) (a .septets .now) (c .before .loop .i) (c .loop-test .left)))
 
 pub units-in-spec : {M : Type 1} → statement M
 units-in-spec =
     tie.close
-    (tie.spec
-    Inv-loop
-    μ-loop
-    unit-table-requires
-    loop-holds
-    read-step-requires
-    add-n
-    loop-less
-    loop-again
-    returns)
+    (tie.spec Inv-loop μ-loop loop-holds next-place-requires add-n loop-less loop-again returns)

@@ -1,0 +1,57 @@
+-- `alphabet::tables::entry_of` meets its contract: within the ranges of the tables by their entries, outside them because no printed row lies there.
+-- Assumes nothing.
+use mathlib.Core.Path.{_≡_, sym, ap, _∙_}
+use Prim.Native.Nat.{ℕ, _+_, _-_}
+use native.Mathlib.Nat.{zero-add}
+use native.Mathlib.Omega.{arith}
+use borrow.Author.Needs.{needs}
+use Rattle.words.specs.Lists.{firstPlace}
+use Rattle.alphabet.specs.Tables.{mainTable, extension, among, beside}
+use Rattle.alphabet.specs.Writing.{listedAs}
+use Rattle.alphabet.specs.Inner.{listing}
+use Rattle.alphabet.proofs.Entries.{between-unlisted, above-unlisted}
+use Rattle.alphabet.proofs.tables.entry_of.Statement.{statement}
+use Rattle.alphabet.proofs.tables.entry_of.Tie as tie
+
+element-copy-out-result : tie.Need-element-copy-out-result
+element-copy-out-result c = search needs
+
+returns : tie.Need-returns
+returns c = let start = c .before .before in start .pre .at (start .args .unit) (c .before .if1 .taken) ∙ ap listedAs (zero-add (start .args .unit))
+
+returns-2 : tie.Need-returns-2
+unfolding listing
+returns-2 c = between-unlisted (c .before .before .args .unit) (omega arith) (omega arith)
+
+greek-table-requires : tie.Need-greek-table-requires
+greek-table-requires c κs = search needs
+
+array-read-result : tie.Need-array-read-result
+array-read-result c = search needs
+
+returns-3 : tie.Need-returns-3
+returns-3 c =
+    let u : ℕ = c .before .before .before .before .args .unit in
+    let e : 0x393 + (u - 0x393) ≡ u = omega arith in
+    c .greek-table .ensures .at (u - 0x393) (omega arith) ∙ ap listedAs e
+
+returns-4 : tie.Need-returns-4
+unfolding listing listedAs among beside firstPlace mainTable extension
+returns-4 c = sym (ap listedAs (c .if4 .taken))
+
+returns-5 : tie.Need-returns-5
+unfolding listing
+returns-5 c = above-unlisted (c .before .before .before .before .args .unit) (omega arith) (c .if4 .left)
+
+pub entry-of-spec : {M : Type 1} → statement M
+entry-of-spec =
+    tie.close
+    (tie.spec
+    element-copy-out-result
+    returns
+    returns-2
+    greek-table-requires
+    array-read-result
+    returns-3
+    returns-4
+    returns-5)
