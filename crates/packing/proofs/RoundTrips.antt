@@ -7,10 +7,10 @@
 --   pack-octets-most     no more octets than the service has
 --   units-fit, units-round-trip, unit-page-round-trip   the same of UCS2
 -- Assumes nothing.
-use mathlib.Core.Path.{_≡_, refl, sym, ap, _∙_}
-use mathlib.Core.Bool.{Bool, true, false}
-use mathlib.Core.List.{List, _∷_, [], _++_}
-use Prim.Native.Nat.{ℕ, _≤_, _*_, _%_}
+use mathlib.Core.Path.{_≡_, refl, sym}
+use mathlib.Core.Bool.{true, false}
+use mathlib.Core.List.{List, [], _∷_, _++_}
+use Prim.Native.Nat.{ℕ, _≤_, _%_}
 use native.Mathlib.Omega.{arith}
 use borrow.Author.Tests.{le-leb, eq-eqb}
 use lib.ListN.{length}
@@ -19,7 +19,7 @@ use Rattle.words.specs.declared.Service.the-variants.{ShortMessage, Broadcast, 
 use Rattle.words.specs.Sizes.{mostSeptets, mostUnits, mostOctets}
 use Rattle.words.specs.Closing.{withoutClosing}
 use Rattle.words.proofs.Below.{Below}
-use Rattle.stream.specs.Stream.{octetsFor, packed}
+use Rattle.stream.specs.Stream.{octetsFor}
 use Rattle.stream.specs.Ucs2.{unitOctets, unitPage}
 use Rattle.stream.proofs.Stream.{packed-length}
 use Rattle.stream.proofs.Ussd.{ussd-octets-most}

@@ -8,7 +8,7 @@
 --   unitsOf service o              == the units that the octets o hold
 --   toUnitsRules, toUnitsAnswers, toUnitsLeaves == the same of octets_to_units
 use Prim.Native.Nat.{ℕ, _%_}
-use mathlib.Core.Bool.{Bool, true, false, not, _&&_}
+use mathlib.Core.Bool.{Bool, false, not, _&&_}
 use mathlib.Core.List.{List, [], _∷_}
 use lib.ListN.{length}
 use lib.Dec.{ltb, leb, eqb}

@@ -1,10 +1,10 @@
 -- The number holds the pieces passed as its digits in base 2 ^ w, and each turn puts one more above them.
-use Prim.Native.Nat.{ℕ, _≤_, _+_, _-_, _*_, _%_, _^_, _<_}
+use Prim.Native.Nat.{ℕ, _≤_, _-_, _*_, _%_, _^_}
 use mathlib.Core.Path.{_≡_, sym, ap, ap₂, _∙_}
 use mathlib.Core.List.{List}
 use native.Mathlib.Omega.{arith}
 use native.Mathlib.Numerals.{add-one}
-use lib.ListN.{length, take, drop, getD}
+use lib.ListN.{take, drop}
 use lib.Seq.{getD-drop}
 use lib.Bits.{bitOr}
 use Rattle.words.proofs.Below.{below-drop}

@@ -1,12 +1,10 @@
 -- The tests are those of the definition, service by service.
-use Prim.Native.Nat.{ℕ, _≤_, _<_}
-use mathlib.Core.Path.{_≡_, refl, sym, ap, _∙_}
+use Prim.Native.Nat.{_≤_, _<_}
+use mathlib.Core.Path.{sym, ap, _∙_}
 use native.Mathlib.Omega.{arith}
 use borrow.Author.Tests.{le-leb, lt-leb, eq-eqb, ne-eqb}
 use lib.Dec.{eqb}
 use Rattle.words.specs.Sizes.{mostSeptets, mostOctets}
-use Rattle.words.specs.declared.Service.the-variants.{ShortMessage, Broadcast, Ussd, OldPage}
-use Rattle.stream.specs.Stream.{octetsFor}
 use borrow.Author.Needs.{needs}
 use Rattle.packing.proofs.septets.fits.Statement.{statement}
 use Rattle.packing.proofs.septets.fits.Tie as tie

@@ -1,6 +1,6 @@
 -- The tests are those of the definition, service by service; an odd number of octets fails them all.
-use Prim.Native.Nat.{ℕ, _≤_, _<_, _%_}
-use mathlib.Core.Path.{_≡_, refl, sym, ap, _∙_}
+use Prim.Native.Nat.{_≤_, _<_, _%_}
+use mathlib.Core.Path.{_≡_, sym, ap, _∙_}
 use mathlib.Core.Bool.{and-true}
 use native.Mathlib.Omega.{arith}
 use borrow.Author.Tests.{le-leb, lt-leb, eq-eqb, ne-eqb}
