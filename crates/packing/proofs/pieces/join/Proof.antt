@@ -33,18 +33,20 @@ shared-slice-read-wide c = search needs
 wide-requires : tie.Need-wide-requires Inv-loop μ-loop
 wide-requires c κs = search needs
 
+-- the piece begins at bit 56 at most
+most : (c : tie.After-wide Inv-loop μ-loop) → let at = c .before .before .before in at .before .before .args .w * at .loop .i ≤ 56
+most c =
+    let at = c .before .before .before in
+    shift-most (at .before .before .args .w) (at .loop .i) (search needs) (omega arith)
+
 mul-v : tie.Need-mul-v Inv-loop μ-loop
 mul-v c =
-    let at = c .before .before .before in
-    let start = at .before .before in
-    let most : start .args .w * at .loop .i ≤ 56 = shift-most (start .args .w) (at .loop .i) (search needs) (omega arith) in
+    let m = most c in
     search needs
 
 shl-v : tie.Need-shl-v Inv-loop μ-loop
 shl-v c =
-    let at = c .before .before .before in
-    let start = at .before .before in
-    let most : start .args .w * at .loop .i ≤ 56 = shift-most (start .args .w) (at .loop .i) (search needs) (omega arith) in
+    let m = most c in
     search needs
 
 add-i : tie.Need-add-i Inv-loop μ-loop
@@ -61,7 +63,7 @@ loop-again c =
     let a : ℕ = start .args .at in
     let w : ℕ = start .args .w in
     let i : ℕ = at .loop .i in
-    let most : w * i ≤ 56 = shift-most w i (search needs) (omega arith) in (
+    let m = most c in (
       search needs,
       ap₂ bitOr (at .loop .inv .1) (ap (λ (x : ℕ). x * 2 ^ (w * i) % 2 ^ 64) (c .wide .ensures ∙ sym (getD-drop a s i 0)))
           ∙ join-more w (drop a s) (below-drop (2 ^ w) s (start .pre .0) a) i (omega arith)
