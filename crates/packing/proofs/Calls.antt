@@ -1,12 +1,12 @@
 -- A call that has passed its own rules answers and leaves what storing its result does, where only 7 can refuse.
 -- Assumes nothing.
 use mathlib.Core.Path.{_≡_, refl, sym, ap, _∙_}
-use mathlib.Core.Bool.{Bool, true, false, and-false}
+use mathlib.Core.Bool.{Bool, true, false, _&&_, and-false}
 use mathlib.Core.List.{List, [], _∷_}
-use Prim.Native.Nat.{ℕ, _≤_, _<_, _%_}
+use Prim.Native.Nat.{ℕ, _%_, _≤_, _<_}
 use native.Mathlib.Omega.{arith}
 use native.Mathlib.Decide.{decLe}
-use borrow.Author.Tests.{le-ltb, ne-eqb, eqb-true, leb-true, leb-false}
+use borrow.Author.Tests.{le-ltb, le-leb, lt-leb, eq-eqb, ne-eqb, eqb-true, leb-true, leb-false}
 use lib.Dec.{ltb, leb, eqb}
 use lib.ListN.{length, getD, List·getD-eq-default}
 use Rattle.words.specs.declared.Service.{Service}
@@ -83,3 +83,17 @@ odd-unfit OldPage m n e = refl
 pub none-high : (s : List ℕ) → length s ≤ firstPlace (leb 128) s → Below 128 s
 none-high s h k =
     elim (decLe (length s) k) [ yes l ↦ omega (arith, List·getD-eq-default s 0 l) | no l ↦ leb-false 128 (getD s k 0) (place-before (leb 128) s k (omega arith)) ]
+
+-- ---- a test of two parts, the first against a size that is looked up
+
+pub exact-holds : (m k c : ℕ) (b : Bool) → k ≡ c → m ≡ k → b ≡ (eqb m c && b)
+exact-holds m k c b size e = simp (eq-eqb m c (e ∙ size))
+
+pub exact-fails : (m k c : ℕ) (b : Bool) → k ≡ c → (m ≡ k → ⊥) → eqb m k ≡ (eqb m c && b)
+exact-fails m k c b size other = simp (ne-eqb m k other, ne-eqb m c (λ e. other (e ∙ sym size)))
+
+pub most-holds : (m k c : ℕ) (b : Bool) → k ≡ c → m ≤ k → b ≡ (leb m c && b)
+most-holds m k c b size h = simp (le-leb m c (omega arith))
+
+pub most-fails : (m k c : ℕ) (b : Bool) → k ≡ c → k < m → leb m k ≡ (leb m c && b)
+most-fails m k c b size h = simp (lt-leb m k h, lt-leb m c (omega arith))

@@ -1,2 +1,4 @@
 pub mod Given
 pub mod Calls
+pub mod RoundTrips
+pub mod Outcomes

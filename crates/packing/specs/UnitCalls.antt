@@ -3,11 +3,12 @@
 -- Cited by packing::units_to_octets and packing::octets_to_units. Assumes nothing.
 --   ucs2OctetsOf service us        == the octets of the units us
 --   toOctetsRules, toOctetsAnswers, toOctetsLeaves == what units_to_octets refuses, answers and leaves in the buffer
+--   unitCountOf service us         == the length count that travels with them
 --   unitsFit service octets count  == whether so many octets fit the service and the count
 --   unitsOf service o              == the units that the octets o hold
 --   toUnitsRules, toUnitsAnswers, toUnitsLeaves == the same of octets_to_units
 use Prim.Native.Nat.{ℕ, _%_}
-use mathlib.Core.Bool.{Bool, true, false, not, _&&_}
+use mathlib.Core.Bool.{Bool, false, not, _&&_}
 use mathlib.Core.List.{List, [], _∷_}
 use lib.ListN.{length}
 use lib.Dec.{ltb, leb, eqb}
@@ -28,6 +29,13 @@ ucs2OctetsOf ShortMessage us = unitOctets us
 ucs2OctetsOf Broadcast us = unitOctets (unitPage us)
 ucs2OctetsOf Ussd us = unitOctets us
 ucs2OctetsOf OldPage us = []
+
+-- the octets of a short message; for the other services it is 0
+abbrev pub unitCountOf : Service → List ℕ → ℕ
+unitCountOf ShortMessage us = length (unitOctets us)
+unitCountOf Broadcast us = 0
+unitCountOf Ussd us = 0
+unitCountOf OldPage us = 0
 
 unfoldable pub toOctetsRules : Service → List ℕ → ℕ → List Rule
 toOctetsRules service us room =

@@ -2,7 +2,7 @@
 -- Said once over the two widths.
 -- Assumes nothing.
 use mathlib.Core.Path.{_≡_, refl, sym, ap, ap₂, _∙_, subst}
-use mathlib.Core.List.{List, [], _∷_}
+use mathlib.Core.List.{List, _∷_}
 use Prim.Native.Nat.{ℕ, zero, suc, _+_, _*_, _/_, _%_, _^_, _≤_, _<_}
 use native.Mathlib.Nat.{mod-lt, div-one, div-div-eq-div-mul, pow-succ', add-suc, suc-add, add-zero, zero-add, mod-eq-of-lt, div-eq-of-lt, le-of-suc-le-suc, not-suc-le-zero, mul-suc, mul-zero, add-assoc, add-comm, zero-div, mul-add-div, mul-add-mod-self-left, le-div-iff-mul-le, mul-comm}
 use native.Mathlib.Omega.{arith}

@@ -5,3 +5,4 @@ pub mod Pages
 pub mod UnitOctets
 pub mod Bits
 pub mod Theorems
+pub mod Cases

@@ -6,7 +6,7 @@ use mathlib.Core.List.{List, [], _∷_, _++_}
 use Prim.Native.Nat.{ℕ, zero, suc, _+_, _-_, _*_, _/_, _%_, _^_, _≤_, _<_}
 use native.Mathlib.Nat.{mod-lt, pow-suc, pow-zero, pow-succ', mul-suc, mul-zero, mul-assoc, add-mul, add-assoc, zero-add, suc-add, div-one, div-div-eq-div-mul, div-lt-iff-lt-mul, div-add-mod', mul-add-div-right, mul-add-mod-self-right, not-suc-le-zero, le-of-suc-le-suc, one-le-pow, mul-le-mul, mul-le-mul-left, mul-comm}
 use native.Mathlib.Omega.{arith}
-use lib.ListN.{length, getD, take, drop, length-append}
+use lib.ListN.{length, getD, take, drop}
 use lib.Arith.{digits-lt, digits-div, digits-mod}
 use lib.Dec.{lit<}
 use lib.Pow.{pow-add, shl-exact}

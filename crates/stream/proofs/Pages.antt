@@ -1,13 +1,13 @@
 -- A page of n pieces, all of them filling, with the text laid over its front: what closes it is dropped, and nothing else is lost.
 -- Said once for the 93 septets and for the 41 units.
 -- Assumes nothing.
-use mathlib.Core.Path.{_≡_, refl, sym, ap, ap₂, _∙_}
-use mathlib.Core.List.{List, [], _∷_, _++_}
+use mathlib.Core.Path.{_≡_, sym, ap, _∙_}
+use mathlib.Core.List.{List, _++_}
 use Prim.Native.Nat.{ℕ, zero, suc, _+_, _-_, _≤_, _<_}
-use native.Mathlib.Nat.{zero-add, suc-add, suc-sub-suc, sub-zero}
+use native.Mathlib.Nat.{suc-sub-suc, sub-zero}
 use native.Mathlib.Omega.{arith}
 use lib.Dec.{lit<}
-use lib.ListN.{length, drop, replicate, length-append, length-drop, length-replicate}
+use lib.ListN.{length, drop, replicate, length-replicate}
 use Rattle.words.specs.Lists.{laid}
 use Rattle.words.specs.Closing.{withoutClosing}
 use Rattle.words.proofs.Below.{Below, below-drop, below-append, below-replicate}
@@ -43,12 +43,12 @@ module _ (n x : ℕ) where
 
 pub page-length : (s : List ℕ) → length s ≤ 93 → length (page s) ≡ 93
 unfolding page
-page-length s h = over-length 93 13 s h
+page-length s h = over-length 93 _ s h
 
 pub page-below : (s : List ℕ) → Below 128 s → Below 128 (page s)
 unfolding page
-page-below s h = over-below 93 13 128 (lit< tt) s h
+page-below s h = over-below 93 _ 128 (lit< tt) s h
 
 pub unit-page-length : (us : List ℕ) → length us ≤ 41 → length (unitPage us) ≡ 41
 unfolding unitPage
-unit-page-length us h = over-length 41 13 us h
+unit-page-length us h = over-length 41 _ us h

@@ -22,18 +22,18 @@
 use mathlib.Core.Path.{_≡_, refl, sym, ap, ap₂, _∙_, subst}
 use mathlib.Core.Logic.{_⊎_, inl, inr, _↔_}
 use mathlib.Core.List.{List, [], _∷_, _++_}
-use Prim.Native.Nat.{ℕ, zero, suc, _+_, _-_, _*_, _/_, _%_, _≤_, _<_}
+use Prim.Native.Nat.{ℕ, _+_, _-_, _*_, _/_, _%_, _≤_, _<_}
 use native.Mathlib.Decide.{ℕ-discrete, decLe}
 use native.Mathlib.Omega.{arith}
-use lib.Dec.{lit<, lit≤}
-use lib.ListN.{length, getD, take, replicate, length-append, List·getD-eq-default}
+use lib.Dec.{lit<}
+use lib.ListN.{length, getD, take, replicate, length-append}
 use lib.Seq.{ext-getD, take-at}
 use Rattle.words.specs.Bits.{bitOf}
 use Rattle.words.specs.Lists.{laid}
 use Rattle.words.specs.Closing.{withoutClosing}
 use Rattle.words.proofs.Below.{Below}
 use Rattle.stream.specs.Stream.{streamBit, octetsFor, packed, unpacked}
-use Rattle.stream.specs.UssdPacking.{last, closed, ussdOctets, ussdSeptets}
+use Rattle.stream.specs.UssdPacking.{last, ussdOctets, ussdSeptets}
 use Rattle.stream.specs.Pages.{page, pageOctets, pageSeptets, oldPageSeptets}
 use Rattle.stream.specs.Ucs2.{unitOctets, octetUnits, unitPage}
 use Rattle.stream.proofs.Stream.{packed-length, packed-below, unpacked-packed}

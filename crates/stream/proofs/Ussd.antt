@@ -5,7 +5,6 @@ use mathlib.Core.Bool.{Bool, true, false, _&&_}
 use mathlib.Core.List.{List, [], _∷_, _++_, append-assoc}
 use Prim.Native.Nat.{ℕ, zero, suc, _+_, _-_, _*_, _/_, _%_, _^_, _<_, _≤_}
 use native.Mathlib.Nat.{mod-eq-of-lt}
-use native.Mathlib.Numerals.{add-one}
 use native.Mathlib.Decide.{ℕ-discrete, decLe}
 use native.Mathlib.Omega.{arith}
 use borrow.Author.Tests.{eq-eqb, ne-eqb, lt-ltb, le-ltb, ltb-true, eqb-true}
@@ -22,6 +21,14 @@ use Rattle.stream.proofs.Numbers.{pow-mul, value-lt, value-one, value-a
 use Rattle.stream.proofs.Stream.{packed-digits, packed-length, unpacked-packed, unpacked-length, unpacked-digits, unpacked-take}
 
 -- ---- adding
+
+pub closed-added : (s : List ℕ) → addsCr s ≡ true → closed s ≡ s ++ 13 ∷ []
+unfolding closed
+closed-added s e = ap (λ (b : Bool). withCr b s) e
+
+pub closed-same : (s : List ℕ) → addsCr s ≡ false → closed s ≡ s
+unfolding closed
+closed-same s e = ap (λ (b : Bool). withCr b s) e
 
 pub with-cr-length : (b : Bool) (s : List ℕ) → length (withCr b s) ≡ withCount b (length s)
 with-cr-length true s = length-append s (13 ∷ [])
@@ -208,14 +215,6 @@ module _ (o : List ℕ) where
       go false e = rw (opened-kept m all e) (ap (λ (k : ℕ). unpacked k o) (unpacked-length n o))
 
 -- ---- reading back what was packed
-
-pub closed-added : (s : List ℕ) → addsCr s ≡ true → closed s ≡ s ++ 13 ∷ []
-unfolding closed
-closed-added s e = ap (λ (b : Bool). withCr b s) e
-
-pub closed-same : (s : List ℕ) → addsCr s ≡ false → closed s ≡ s
-unfolding closed
-closed-same s e = ap (λ (b : Bool). withCr b s) e
 
 -- k eights and r over take 7k + r octets
 octets-parts : (n : ℕ) → octetsFor n ≡ 7 * (n / 8) + n % 8

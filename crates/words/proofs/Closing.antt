@@ -8,7 +8,7 @@ use native.Mathlib.Nat.{sub-zero, suc-sub-suc}
 use native.Mathlib.Omega.{arith}
 use borrow.Author.Tests.{eq-eqb, ne-eqb, eqb-true}
 use lib.Dec.{eqb}
-use lib.ListN.{length, take, replicate, getD, length-append}
+use lib.ListN.{length, take, replicate, getD}
 use lib.Seq.{take-suc, take-length, length-take-le}
 use Rattle.words.specs.Closing.{beforeKept, withoutClosing}
 

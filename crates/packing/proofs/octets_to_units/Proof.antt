@@ -1,19 +1,18 @@
 -- Rule 4 is judged whole; past it each service stores its units, and the room is judged there.
-use Prim.Native.Nat.{ℕ, _≤_, _*_, _/_, _%_}
+use Prim.Native.Nat.{ℕ, _/_}
 use mathlib.Core.Path.{_≡_, refl, sym, ap, _∙_, subst}
-use mathlib.Core.Bool.{Bool, true, false, not}
+use mathlib.Core.Bool.{true, false}
 use mathlib.Core.List.{List}
 use native.Mathlib.Omega.{arith}
 use borrow.Author.Tests.{not-true, not-false}
 use lib.ListN.{length, take}
 use lib.Seq.{take-all}
 use Rattle.words.specs.declared.Service.{Service}
-use Rattle.words.specs.declared.Service.the-variants.{ShortMessage, Broadcast, Ussd, OldPage}
+use Rattle.words.specs.declared.Service.the-variants.{ShortMessage, Broadcast, Ussd}
 use Rattle.words.specs.Judging.{verdict}
-use Rattle.words.specs.Closing.{withoutClosing}
 use Rattle.words.proofs.Closing.{closing-front, closing-length}
 use Rattle.stream.specs.Ucs2.{octetUnits}
-use Rattle.packing.specs.UnitCalls.{unitsFit, unitsOf, toUnitsRules, toUnitsAnswers, toUnitsLeaves}
+use Rattle.packing.specs.UnitCalls.{unitsFit, toUnitsRules, toUnitsAnswers, toUnitsLeaves}
 use Rattle.packing.proofs.Given.{Gives}
 use Rattle.stream.proofs.UnitOctets.{octet-units-length}
 use Rattle.packing.proofs.Calls.{to-units-passed, fit-units}

@@ -1,13 +1,13 @@
 -- The tests are the rules in their order; past them each service stores its octets, and the room is judged there.
 use Prim.Native.Nat.{ℕ, _≤_, _<_}
-use mathlib.Core.Path.{_≡_, refl, sym, ap, ap₂, _∙_, subst}
+use mathlib.Core.Path.{_≡_, refl, sym, ap, _∙_, subst}
 use mathlib.Core.Bool.{Bool, true, false}
 use mathlib.Core.List.{List}
 use native.Mathlib.Omega.{arith}
 use borrow.Author.Tests.{lt-ltb, le-ltb}
 use lib.Dec.{leb}
 use lib.ListN.{length}
-use Rattle.words.specs.declared.Service.the-variants.{ShortMessage, Broadcast, Ussd, OldPage}
+use Rattle.words.specs.declared.Service.the-variants.{ShortMessage, Broadcast, Ussd}
 use Rattle.words.specs.declared.Refusal.the-variants.{NoSeptet}
 use Rattle.words.specs.Sizes.{mostSeptets}
 use Rattle.words.specs.Lists.{firstPlace}
@@ -17,7 +17,6 @@ use Rattle.packing.specs.declared.Packed.the-variants.{Refused}
 use Rattle.stream.specs.Stream.{packed}
 use Rattle.stream.specs.UssdPacking.{withCr, closed, ussdOctets}
 use Rattle.packing.specs.SeptetCalls.{isOldPage, packRules, packAnswers, packLeaves}
-use Rattle.packing.specs.Inner.{countedAs}
 use Rattle.packing.proofs.Given.{Gives}
 use Rattle.packing.proofs.Calls.{none-high, pack-passed}
 use borrow.Author.Needs.{needs}

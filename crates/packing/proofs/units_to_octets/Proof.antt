@@ -1,11 +1,11 @@
 -- The tests are the rules in their order; past them each service stores its octets, and the room is judged there.
-use Prim.Native.Nat.{ℕ, _≤_, _<_}
+use Prim.Native.Nat.{_≤_, _<_}
 use mathlib.Core.Path.{_≡_, refl, sym, ap, _∙_}
-use mathlib.Core.Bool.{Bool, true, false}
+use mathlib.Core.Bool.{true, false}
 use native.Mathlib.Omega.{arith}
 use borrow.Author.Tests.{lt-ltb}
 use lib.ListN.{length}
-use Rattle.words.specs.declared.Service.the-variants.{ShortMessage, Broadcast, Ussd, OldPage}
+use Rattle.words.specs.declared.Service.the-variants.{ShortMessage, Broadcast, Ussd}
 use Rattle.words.specs.Sizes.{mostUnits}
 use Rattle.words.specs.Judging.{verdict}
 use Rattle.packing.specs.SeptetCalls.{isOldPage}

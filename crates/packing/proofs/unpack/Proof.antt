@@ -1,16 +1,14 @@
 -- Rule 4 is judged whole; past it each service stores its septets, and the room is judged there.
-use Prim.Native.Nat.{ℕ, _≤_}
-use mathlib.Core.Path.{_≡_, refl, sym, ap, ap₂, _∙_, subst}
-use mathlib.Core.Bool.{Bool, true, false, not}
+use Prim.Native.Nat.{ℕ}
+use mathlib.Core.Path.{_≡_, refl, sym, ap, _∙_, subst}
+use mathlib.Core.Bool.{true, false}
 use mathlib.Core.List.{List}
-use native.Mathlib.Omega.{arith}
 use borrow.Author.Tests.{not-true, not-false}
 use lib.ListN.{length}
 use Rattle.words.specs.declared.Service.{Service}
 use Rattle.words.specs.declared.Service.the-variants.{ShortMessage, Broadcast, Ussd, OldPage}
 use Rattle.words.specs.Judging.{verdict}
 use Rattle.stream.specs.Stream.{octetsFor, unpacked}
-use Rattle.stream.specs.UssdPacking.{ussdSeptets}
 use Rattle.stream.specs.Pages.{pageSeptets, oldPageSeptets}
 use Rattle.packing.specs.SeptetCalls.{septetsFit, unpackRules, unpackAnswers, unpackLeaves}
 use Rattle.packing.proofs.Given.{Gives}

@@ -1,10 +1,10 @@
 -- The number holds the pieces passed as its digits in base 2 ^ w, and each turn puts one more above them.
-use Prim.Native.Nat.{ℕ, _≤_, _+_, _-_, _*_, _%_, _^_, _<_}
+use Prim.Native.Nat.{ℕ, _≤_, _-_, _*_, _%_, _^_}
 use mathlib.Core.Path.{_≡_, sym, ap, ap₂, _∙_}
 use mathlib.Core.List.{List}
 use native.Mathlib.Omega.{arith}
 use native.Mathlib.Numerals.{add-one}
-use lib.ListN.{length, take, drop, getD}
+use lib.ListN.{take, drop}
 use lib.Seq.{getD-drop}
 use lib.Bits.{bitOr}
 use Rattle.words.proofs.Below.{below-drop}
@@ -33,18 +33,20 @@ shared-slice-read-wide c = search needs
 wide-requires : tie.Need-wide-requires Inv-loop μ-loop
 wide-requires c κs = search needs
 
+-- the piece begins at bit 56 at most
+most : (c : tie.After-wide Inv-loop μ-loop) → let at = c .before .before .before in at .before .before .args .w * at .loop .i ≤ 56
+most c =
+    let at = c .before .before .before in
+    shift-most (at .before .before .args .w) (at .loop .i) (search needs) (omega arith)
+
 mul-v : tie.Need-mul-v Inv-loop μ-loop
 mul-v c =
-    let at = c .before .before .before in
-    let start = at .before .before in
-    let most : start .args .w * at .loop .i ≤ 56 = shift-most (start .args .w) (at .loop .i) (search needs) (omega arith) in
+    let m = most c in
     search needs
 
 shl-v : tie.Need-shl-v Inv-loop μ-loop
 shl-v c =
-    let at = c .before .before .before in
-    let start = at .before .before in
-    let most : start .args .w * at .loop .i ≤ 56 = shift-most (start .args .w) (at .loop .i) (search needs) (omega arith) in
+    let m = most c in
     search needs
 
 add-i : tie.Need-add-i Inv-loop μ-loop
@@ -61,7 +63,7 @@ loop-again c =
     let a : ℕ = start .args .at in
     let w : ℕ = start .args .w in
     let i : ℕ = at .loop .i in
-    let most : w * i ≤ 56 = shift-most w i (search needs) (omega arith) in (
+    let m = most c in (
       search needs,
       ap₂ bitOr (at .loop .inv .1) (ap (λ (x : ℕ). x * 2 ^ (w * i) % 2 ^ 64) (c .wide .ensures ∙ sym (getD-drop a s i 0)))
           ∙ join-more w (drop a s) (below-drop (2 ^ w) s (start .pre .0) a) i (omega arith)

@@ -1,14 +1,14 @@
 -- The groups passed are laid over the front of out, and each turn stores the next group right after them.
-use Prim.Native.Nat.{ℕ, _≤_, _+_, _-_, _*_, _^_, _<_}
-use mathlib.Core.Path.{_≡_, refl, sym, ap, ap₂, _∙_}
-use mathlib.Core.List.{List, [], _++_}
+use Prim.Native.Nat.{ℕ, _≤_, _+_, _-_, _*_, _^_}
+use mathlib.Core.Path.{_≡_, ap, ap₂, _∙_}
+use mathlib.Core.List.{List, _++_}
 use native.Mathlib.Omega.{arith}
 use native.Mathlib.Nat.{mul-zero}
 use lib.ListN.{length, take, drop}
 use Rattle.words.specs.Lists.{laid}
 use Rattle.words.proofs.Laid.{laid-then}
 use Rattle.stream.specs.Inner.{value, digits}
-use Rattle.stream.proofs.Numbers.{digits-length, group-next, group-within, recut-group}
+use Rattle.stream.proofs.Numbers.{digits-length, group-within, recut-group}
 use borrow.Author.Needs.{needs}
 use Rattle.packing.proofs.pieces.recut.Statement.{statement}
 use Rattle.packing.proofs.pieces.recut.Tie as tie

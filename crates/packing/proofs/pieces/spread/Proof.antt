@@ -35,14 +35,18 @@ sub-mask c =
 loop-holds : tie.Need-loop-holds Inv-loop μ-loop
 loop-holds c = (search needs, paste-zero (c .args .out .now) (c .args .at) (digits (2 ^ (c .args .u)) (c .args .n) (c .args .v)), search needs)
 
+-- the piece begins at bit 56 at most
+most : (c : tie.In-loop Inv-loop μ-loop) → c .before .before .args .u * c .before .loop .i ≤ 56
+most c = shift-most (c .before .before .args .u) (c .before .loop .i) (search needs) (omega arith)
+
 mul-out : tie.Need-mul-out Inv-loop μ-loop
 mul-out c =
-    let most : c .before .before .args .u * c .before .loop .i ≤ 56 = shift-most (c .before .before .args .u) (c .before .loop .i) (search needs) (omega arith) in
+    let m = most c in
     search needs
 
 shr-out : tie.Need-shr-out Inv-loop μ-loop
 shr-out c =
-    let most : c .before .before .args .u * c .before .loop .i ≤ 56 = shift-most (c .before .before .args .u) (c .before .loop .i) (search needs) (omega arith) in
+    let m = most c in
     search needs
 
 cast-out : tie.Need-cast-out Inv-loop μ-loop

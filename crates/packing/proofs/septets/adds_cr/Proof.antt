@@ -1,5 +1,5 @@
 -- The tests are those of the definition, one after the other.
-use mathlib.Core.Path.{_≡_, sym, _∙_}
+use mathlib.Core.Path.{sym}
 use Rattle.stream.specs.UssdPacking.{last}
 use Rattle.stream.proofs.Ussd.{adds-seven, adds-eight, adds-other, adds-none}
 use borrow.Author.Needs.{needs}

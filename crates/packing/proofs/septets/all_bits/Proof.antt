@@ -4,7 +4,7 @@ use native.Mathlib.Decide.{decLe}
 use native.Mathlib.Omega.{arith}
 use borrow.Author.Count.{below-none, below-more}
 use lib.ListN.{length, getD, List·getD-eq-default}
-use lib.Bits.{bitOr, bitAnd, or-add-and, and-le-l, and-le-r}
+use lib.Bits.{bitOr, or-add-and, and-le-l, and-le-r}
 use borrow.Author.Needs.{needs}
 use Rattle.packing.proofs.septets.all_bits.Statement.{statement}
 use Rattle.packing.proofs.septets.all_bits.Tie as tie

@@ -1,12 +1,11 @@
 -- Where no bit above the seventh is set every septet is below 128; else the loop passes those that are.
-use Prim.Native.Nat.{ℕ, _≤_, _+_, _-_, _<_}
-use mathlib.Core.Path.{_≡_, refl, sym, ap, _∙_}
+use Prim.Native.Nat.{ℕ, _≤_, _-_}
+use mathlib.Core.Path.{sym}
 use mathlib.Core.List.{List}
 use native.Mathlib.Omega.{arith}
 use borrow.Author.Tests.{le-leb, lt-leb}
 use lib.Dec.{leb}
 use lib.ListN.{length, getD}
-use Rattle.words.specs.Lists.{firstPlace}
 use Rattle.words.proofs.Places.{Passed, passed-none, passed-more, passed-here, passed-over, place-none}
 use borrow.Author.Needs.{needs}
 use Rattle.packing.proofs.septets.first_high.Statement.{statement}

@@ -1,18 +1,21 @@
 -- The tests are those of the definition, service by service.
-use Prim.Native.Nat.{ℕ, _≤_, _<_}
-use mathlib.Core.Path.{_≡_, refl, sym, ap, _∙_}
-use native.Mathlib.Omega.{arith}
-use borrow.Author.Tests.{le-leb, lt-leb, eq-eqb, ne-eqb}
+use mathlib.Core.Path.{_≡_, ap, _∙_}
+use Rattle.words.specs.declared.Service.{Service}
+use Rattle.words.specs.declared.Service.the-variants.{Broadcast, Ussd, OldPage}
+use Rattle.packing.proofs.Calls.{exact-holds, exact-fails, most-holds, most-fails}
+use mathlib.Core.Path.{ap, _∙_}
 use lib.Dec.{eqb}
 use Rattle.words.specs.Sizes.{mostSeptets, mostOctets}
-use Rattle.words.specs.declared.Service.the-variants.{ShortMessage, Broadcast, Ussd, OldPage}
-use Rattle.stream.specs.Stream.{octetsFor}
 use borrow.Author.Needs.{needs}
 use Rattle.packing.proofs.septets.fits.Statement.{statement}
 use Rattle.packing.proofs.septets.fits.Tie as tie
 
 most-octets-requires : tie.Need-most-octets-requires
 most-octets-requires c κs = search needs
+
+-- the size of the service that is told
+size : (c : tie.After-most-octets) (service : Service) → c .before .args .service ≡ service → c .most-octets .result ≡ mostOctets service
+size c service e = c .most-octets .ensures ∙ ap mostOctets e
 
 enum-told : tie.Need-enum-told
 enum-told c = search needs
@@ -35,52 +38,34 @@ enum-told-4 c = search needs
 returns : tie.Need-returns
 returns c =
     let told = c .before .before .before in
-    let a = told .before .before .before .args in
-    let most : a .count ≤ 160 = omega (arith, ap mostSeptets (told .enum-told .given .1)) in
-    simp (told .enum-told .given .1, le-leb _ _ most) (ap (eqb (a .octets)) (c .octets-for .ensures))
+    let e = told .enum-told .given .1 in
+    rw e
+    (ap (eqb (told .before .before .before .args .octets)) (c .octets-for .ensures)
+    ∙ most-holds _ (c .before .before .most-septets .result) 160 _ (c .before .before .most-septets .ensures ∙ ap mostSeptets e) (c .before .if1 .taken))
 
 returns-2 : tie.Need-returns-2
 returns-2 c =
     let told = c .before .before in
-    let a = told .before .before .before .args in
-    let most : 160 < a .count = omega (arith, ap mostSeptets (told .enum-told .given .1)) in
-    simp (told .enum-told .given .1, lt-leb _ _ most) (lt-leb _ _ (c .if1 .left))
+    let e = told .enum-told .given .1 in
+    rw e (most-fails _ (c .before .most-septets .result) 160 _ (c .before .most-septets .ensures ∙ ap mostSeptets e) (c .if1 .left))
 
 returns-3 : tie.Need-returns-3
-returns-3 c =
-    let told = c .before in
-    let size = told .before .before .most-octets .ensures ∙ ap mostOctets (told .enum-told2 .given .1) in
-    simp (told .enum-told2 .given .1, eq-eqb _ _ (c .if2 .taken ∙ size))
+returns-3 c = let e = c .before .enum-told2 .given .1 in rw e (exact-holds _ _ 82 _ (size (c .before .before .before) Broadcast e) (c .if2 .taken))
 
 returns-4 : tie.Need-returns-4
-returns-4 c =
-    let told = c .before in
-    let size = told .before .before .most-octets .ensures ∙ ap mostOctets (told .enum-told2 .given .1) in
-    simp (told .enum-told2 .given .1, ne-eqb _ 82 (λ e. c .if2 .left (e ∙ sym size))) (ne-eqb _ _ (c .if2 .left))
+returns-4 c = let e = c .before .enum-told2 .given .1 in rw e (exact-fails _ _ 82 _ (size (c .before .before .before) Broadcast e) (c .if2 .left))
 
 returns-5 : tie.Need-returns-5
-returns-5 c =
-    let told = c .before in
-    let fits : told .before .before .before .args .octets ≤ 160 = omega (arith, ap mostOctets (told .enum-told3 .given .1)) in
-    simp (told .enum-told3 .given .1, le-leb _ _ fits)
+returns-5 c = let e = c .before .enum-told3 .given .1 in rw e (most-holds _ _ 160 _ (size (c .before .before .before) Ussd e) (c .if3 .taken))
 
 returns-6 : tie.Need-returns-6
-returns-6 c =
-    let told = c .before in
-    let over : 160 < told .before .before .before .args .octets = omega (arith, ap mostOctets (told .enum-told3 .given .1)) in
-    simp (told .enum-told3 .given .1, lt-leb _ _ over) (lt-leb _ _ (c .if3 .left))
+returns-6 c = let e = c .before .enum-told3 .given .1 in rw e (most-fails _ _ 160 _ (size (c .before .before .before) Ussd e) (c .if3 .left))
 
 returns-7 : tie.Need-returns-7
-returns-7 c =
-    let told = c .before in
-    let size = told .before .before .most-octets .ensures ∙ ap mostOctets (told .enum-told4 .given .1) in
-    simp (told .enum-told4 .given .1, eq-eqb _ _ (c .if4 .taken ∙ size))
+returns-7 c = let e = c .before .enum-told4 .given .1 in rw e (exact-holds _ _ 82 _ (size (c .before .before .before) OldPage e) (c .if4 .taken))
 
 returns-8 : tie.Need-returns-8
-returns-8 c =
-    let told = c .before in
-    let size = told .before .before .most-octets .ensures ∙ ap mostOctets (told .enum-told4 .given .1) in
-    simp (told .enum-told4 .given .1, ne-eqb _ 82 (λ e. c .if4 .left (e ∙ sym size))) (ne-eqb _ _ (c .if4 .left))
+returns-8 c = let e = c .before .enum-told4 .given .1 in rw e (exact-fails _ _ 82 _ (size (c .before .before .before) OldPage e) (c .if4 .left))
 
 pub fits-spec : {M : Type 1} → statement M
 fits-spec =

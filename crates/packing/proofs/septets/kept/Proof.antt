@@ -1,12 +1,7 @@
 -- The septets from n on are filling, so that the first n decide what is left.
 use Rattle.words.proofs.Closing.{Filled-from, filled-end, filled-down, filled-here, filled-whole}
-use Prim.Native.Nat.{ℕ, _≤_, _+_, _-_, _<_}
-use mathlib.Core.Path.{_≡_, refl, sym, ap, _∙_}
-use mathlib.Core.List.{List}
-use native.Mathlib.Omega.{arith}
-use lib.ListN.{length, getD, take}
-use lib.Seq.{take-length, length-take-le}
-use Rattle.words.specs.Closing.{withoutClosing}
+use Prim.Native.Nat.{_≤_, _-_}
+use lib.ListN.{length}
 use borrow.Author.Needs.{needs}
 use Rattle.packing.proofs.septets.kept.Statement.{statement}
 use Rattle.packing.proofs.septets.kept.Tie as tie

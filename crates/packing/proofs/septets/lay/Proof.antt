@@ -1,10 +1,7 @@
 -- The septets passed are laid over the front of the 93 CR.
 use Prim.Native.Nat.{ℕ, _≤_, _-_, _<_}
-use mathlib.Core.Path.{_≡_, refl, ap, _∙_}
 use mathlib.Core.List.{List}
-use native.Mathlib.Omega.{arith}
-use lib.ListN.{length, drop, replicate, length-replicate, drop-of-length-le}
-use Rattle.words.specs.Lists.{laid}
+use lib.ListN.{length, drop, replicate, drop-of-length-le}
 use Rattle.words.proofs.Laid.{Laying, lay-none, lay-one, lay-rest, lay-end}
 use Rattle.stream.specs.Pages.{page}
 use borrow.Author.Needs.{needs}

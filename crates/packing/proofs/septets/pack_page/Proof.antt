@@ -1,12 +1,11 @@
 -- The page has 93 septets below 128, and its packing is what the contract says.
-use Prim.Native.Nat.{ℕ, _≤_}
-use mathlib.Core.Path.{_≡_, ap, _∙_}
+use Prim.Native.Nat.{ℕ}
+use mathlib.Core.Path.{ap, _∙_}
 use mathlib.Core.List.{List}
 use native.Mathlib.Omega.{arith}
 use lib.ListN.{length}
-use Rattle.words.proofs.Below.{Below}
 use Rattle.stream.specs.Stream.{packed}
-use Rattle.stream.specs.Pages.{page, pageOctets}
+use Rattle.stream.specs.Pages.{pageOctets}
 use Rattle.packing.specs.Inner.{givenAnswers, givenLeaves}
 use Rattle.stream.proofs.Pages.{page-length, page-below}
 use borrow.Author.Needs.{needs}

@@ -1,8 +1,8 @@
 -- As many septets are unpacked as the page has, so that nothing of its zeros is left.
 use Prim.Native.Nat.{ℕ}
-use mathlib.Core.Path.{_≡_, _∙_}
+use mathlib.Core.Path.{_∙_}
 use native.Mathlib.Omega.{arith}
-use lib.ListN.{length, replicate, length-replicate}
+use lib.ListN.{replicate, length-replicate}
 use Rattle.words.proofs.Laid.{laid-full}
 use Rattle.stream.specs.Stream.{octetsFor, unpacked}
 use Rattle.stream.proofs.Stream.{unpacked-length}

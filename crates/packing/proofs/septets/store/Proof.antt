@@ -1,12 +1,12 @@
 -- The first n septets are laid over the front of out, one after the other.
 use Rattle.words.proofs.Laid.{Laying, lay-none, lay-front, lay-end}
-use Prim.Native.Nat.{ℕ, _≤_, _+_, _-_, _<_}
-use mathlib.Core.Path.{_≡_, refl, sym, ap, _∙_, subst}
+use Prim.Native.Nat.{ℕ, _≤_, _-_}
+use mathlib.Core.Path.{_≡_, refl, sym}
 use mathlib.Core.List.{List}
 use native.Mathlib.Omega.{arith}
-use lib.ListN.{length, getD, take, drop, set, drop-of-length-le}
-use lib.Seq.{getD-take, length-take-le}
-use Rattle.words.proofs.Laid.{Laying, lay-none, lay-one, lay-rest, lay-end}
+use lib.ListN.{length, take, drop, drop-of-length-le}
+use lib.Seq.{length-take-le}
+use Rattle.words.proofs.Laid.{Laying, lay-none, lay-end}
 use Rattle.packing.proofs.Given.{given-short, given-done}
 use borrow.Author.Needs.{needs}
 use Rattle.packing.proofs.septets.store.Statement.{statement}

@@ -1,12 +1,12 @@
 -- Whole groups and what is left over make up the number that the octets write, so that its septets follow each other.
-use Prim.Native.Nat.{ℕ, _≤_, _+_, _-_, _*_, _/_, _%_, _<_}
-use mathlib.Core.Path.{_≡_, refl, sym, ap, ap₂, _∙_}
+use Prim.Native.Nat.{ℕ, _+_, _-_, _*_, _/_, _%_}
+use mathlib.Core.Path.{_≡_, sym, ap, ap₂, _∙_}
 use mathlib.Core.List.{List, _++_}
 use native.Mathlib.Omega.{arith}
 use lib.ListN.{length, take, drop, length-drop, take-append-drop}
 use lib.Seq.{take-all, length-take-le}
 use Rattle.words.specs.Lists.{laid}
-use Rattle.words.proofs.Laid.{laid-then, laid-length}
+use Rattle.words.proofs.Laid.{laid-then}
 use Rattle.words.proofs.Below.{Below, below-take}
 use Rattle.stream.specs.Stream.{octetsFor, unpacked}
 use Rattle.stream.specs.Inner.{value, digits}

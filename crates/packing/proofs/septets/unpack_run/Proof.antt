@@ -1,5 +1,5 @@
 -- The room is judged, and then the septets are laid over the front of out.
-use mathlib.Core.Path.{_≡_, sym}
+use mathlib.Core.Path.{sym}
 use native.Mathlib.Omega.{arith}
 use Rattle.stream.specs.Stream.{unpacked}
 use Rattle.stream.proofs.Stream.{unpacked-length}

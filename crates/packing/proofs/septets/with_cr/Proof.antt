@@ -1,7 +1,6 @@
 -- By the two cases of the flag.
-use mathlib.Core.Path.{_≡_, refl, sym, ap, subst}
+use mathlib.Core.Path.{sym, ap}
 use mathlib.Core.Bool.{Bool}
-use Prim.Native.Nat.{ℕ, _+_}
 use Rattle.stream.specs.Inner.{withCount}
 use borrow.Author.Needs.{needs}
 use Rattle.packing.proofs.septets.with_cr.Statement.{statement}

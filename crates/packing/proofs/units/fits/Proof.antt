@@ -1,9 +1,12 @@
 -- The tests are those of the definition, service by service; an odd number of octets fails them all.
-use Prim.Native.Nat.{ℕ, _≤_, _<_, _%_}
-use mathlib.Core.Path.{_≡_, refl, sym, ap, _∙_}
+use Rattle.words.specs.declared.Service.{Service}
+use Rattle.words.specs.declared.Service.the-variants.{ShortMessage, Broadcast, Ussd}
+use Rattle.packing.proofs.Calls.{exact-holds, exact-fails, most-holds, most-fails}
+use Prim.Native.Nat.{_%_}
+use mathlib.Core.Path.{_≡_, ap, _∙_}
 use mathlib.Core.Bool.{and-true}
 use native.Mathlib.Omega.{arith}
-use borrow.Author.Tests.{le-leb, lt-leb, eq-eqb, ne-eqb}
+use borrow.Author.Tests.{eq-eqb}
 use Rattle.words.specs.Sizes.{mostOctets}
 use Rattle.packing.proofs.Calls.{odd-unfit}
 use borrow.Author.Needs.{needs}
@@ -15,6 +18,10 @@ returns c = odd-unfit (c .before .args .service) (c .before .args .octets) (c .b
 
 most-octets-requires : tie.Need-most-octets-requires
 most-octets-requires c κs = search needs
+
+-- the size of the service that is told
+size : (c : tie.After-most-octets) (service : Service) → c .before .before .args .service ≡ service → c .most-octets .result ≡ mostOctets service
+size c service e = c .most-octets .ensures ∙ ap mostOctets e
 
 enum-told : tie.Need-enum-told
 enum-told c = search needs
@@ -34,43 +41,29 @@ even c = omega arith
 
 returns-2 : tie.Need-returns-2
 returns-2 c =
-    let told = c .before in
-    let most = told .before .before in
-    let fits : most .before .before .args .octets ≤ 140 = omega (arith, most .most-octets .ensures, ap mostOctets (told .enum-told .given .1)) in
-    simp (told .enum-told .given .1, le-leb _ _ fits, eq-eqb _ _ (even (most .before)), and-true)
+    let e = c .before .enum-told .given .1 in
+    rw e (simp (eq-eqb _ _ (even (c .before .before .before .before)), and-true) (most-holds _ _ 140 _ (size (c .before .before .before) ShortMessage e) (c .if2 .taken)))
 
 returns-3 : tie.Need-returns-3
 returns-3 c =
-    let told = c .before in
-    let most = told .before .before in
-    let over : 140 < most .before .before .args .octets = omega (arith, most .most-octets .ensures, ap mostOctets (told .enum-told .given .1)) in
-    simp (told .enum-told .given .1, lt-leb _ _ over) (lt-leb _ _ (c .if2 .left))
+    let e = c .before .enum-told .given .1 in
+    rw e (simp (eq-eqb _ _ (even (c .before .before .before .before)), and-true) (most-fails _ _ 140 _ (size (c .before .before .before) ShortMessage e) (c .if2 .left)))
 
 returns-4 : tie.Need-returns-4
-returns-4 c =
-    let told = c .before in
-    let size = told .before .before .most-octets .ensures ∙ ap mostOctets (told .enum-told2 .given .1) in
-    simp (told .enum-told2 .given .1, eq-eqb _ _ (c .if3 .taken ∙ size))
+returns-4 c = let e = c .before .enum-told2 .given .1 in rw e (exact-holds _ _ 82 _ (size (c .before .before .before) Broadcast e) (c .if3 .taken))
 
 returns-5 : tie.Need-returns-5
-returns-5 c =
-    let told = c .before in
-    let size = told .before .before .most-octets .ensures ∙ ap mostOctets (told .enum-told2 .given .1) in
-    simp (told .enum-told2 .given .1, ne-eqb _ 82 (λ e. c .if3 .left (e ∙ sym size))) (ne-eqb _ _ (c .if3 .left))
+returns-5 c = let e = c .before .enum-told2 .given .1 in rw e (exact-fails _ _ 82 _ (size (c .before .before .before) Broadcast e) (c .if3 .left))
 
 returns-6 : tie.Need-returns-6
 returns-6 c =
-    let told = c .before in
-    let most = told .before .before in
-    let fits : most .before .before .args .octets ≤ 160 = omega (arith, most .most-octets .ensures, ap mostOctets (told .enum-told3 .given .1)) in
-    simp (told .enum-told3 .given .1, le-leb _ _ fits, eq-eqb _ _ (even (most .before)), and-true)
+    let e = c .before .enum-told3 .given .1 in
+    rw e (simp (eq-eqb _ _ (even (c .before .before .before .before)), and-true) (most-holds _ _ 160 _ (size (c .before .before .before) Ussd e) (c .if4 .taken)))
 
 returns-7 : tie.Need-returns-7
 returns-7 c =
-    let told = c .before in
-    let most = told .before .before in
-    let over : 160 < most .before .before .args .octets = omega (arith, most .most-octets .ensures, ap mostOctets (told .enum-told3 .given .1)) in
-    simp (told .enum-told3 .given .1, lt-leb _ _ over) (lt-leb _ _ (c .if4 .left))
+    let e = c .before .enum-told3 .given .1 in
+    rw e (simp (eq-eqb _ _ (even (c .before .before .before .before)), and-true) (most-fails _ _ 160 _ (size (c .before .before .before) Ussd e) (c .if4 .left)))
 
 returns-8 : tie.Need-returns-8
 returns-8 c = simp (c .enum-told4 .given .1)

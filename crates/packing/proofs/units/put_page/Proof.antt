@@ -1,10 +1,10 @@
 -- The page has 41 units, and their octets are what the contract says.
-use Prim.Native.Nat.{ℕ, _≤_}
-use mathlib.Core.Path.{_≡_, ap, _∙_}
+use Prim.Native.Nat.{ℕ}
+use mathlib.Core.Path.{ap, _∙_}
 use mathlib.Core.List.{List}
 use native.Mathlib.Omega.{arith}
 use lib.ListN.{length}
-use Rattle.stream.specs.Ucs2.{unitOctets, unitPage}
+use Rattle.stream.specs.Ucs2.{unitOctets}
 use Rattle.packing.specs.Inner.{givenAnswers, givenLeaves}
 use Rattle.stream.proofs.Pages.{unit-page-length}
 use borrow.Author.Needs.{needs}
