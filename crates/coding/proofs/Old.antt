@@ -9,7 +9,7 @@ use Rattle.words.specs.declared.Service.the-variants.{OldPage}
 use Rattle.words.specs.declared.Refusal.the-variants.{NoText}
 use Rattle.coding.specs.declared.OctetRead.the-variants.{Done, Refused}
 use Rattle.coding.specs.Readings.{unmentioned}
-use Rattle.coding.specs.OctetRead.{octetReads}
+use Rattle.coding.specs.OctetRead.{octetRules, octetReads}
 use Rattle.words.specs.Bits.{bitsOf}
 use Rattle.words.proofs.Bits.{bits-number}
 
@@ -17,9 +17,9 @@ bits-3-0 : (o : ℕ) → bitsOf o 3 0 ≡ o % 16
 bits-3-0 o = bits-number o 3 0 ∙ ap (λ (x : ℕ). x % 16) (div-one o)
 
 pub old-refused : (o : ℕ) → 0 < o % 16 → octetReads OldPage o ≡ Refused NoText
-unfolding octetReads verdict
+unfolding octetReads octetRules verdict
 old-refused o h = simp (bits-3-0, lt-ltb _ _ h)
 
 pub old-read : (o : ℕ) → o % 16 ≤ 0 → octetReads OldPage o ≡ Done unmentioned
-unfolding octetReads verdict
+unfolding octetReads octetRules verdict
 old-read o h = simp (bits-3-0, le-ltb _ _ h)

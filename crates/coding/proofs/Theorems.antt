@@ -23,7 +23,7 @@ use Rattle.coding.specs.declared.Reading.{Reading}
 use Rattle.coding.specs.declared.OctetRead.the-variants as read
 use Rattle.coding.specs.declared.OctetWritten.{OctetWritten}
 use Rattle.coding.specs.declared.OctetWritten.the-variants.{Done, Refused}
-use Rattle.coding.specs.OctetRead.{classIn, discardIn, storeIn, generalReading, noticeReading, lastReading, readShort, readPage, readUnder, octetReads}
+use Rattle.coding.specs.OctetRead.{classIn, discardIn, storeIn, generalReading, noticeReading, lastReading, readShort, readPage, readUnder, octetRules, octetReads}
 use Rattle.words.specs.Bits.{bitOf, bitsFrom, bitsOf}
 use Rattle.words.proofs.Tests.{both}
 use Rattle.coding.specs.OctetWritten.{sameReading, smallest, writeRules, octetWrites}
@@ -32,7 +32,7 @@ use Rattle.coding.proofs.Smallest.{found-reads, found-least, write-foun
 
 -- a service that writes reads every octet
 pub reads-all : (s : Service) (o : ℕ) → isOldPage s ≡ false → octetReads s o ≡ read.Done (readUnder s o)
-unfolding octetReads verdict
+unfolding octetReads octetRules verdict
 reads-all ShortMessage o e = refl
 reads-all Broadcast o e = refl
 reads-all Ussd o e = refl

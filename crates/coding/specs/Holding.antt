@@ -24,7 +24,7 @@ isUcs2 EightBit = false
 isUcs2 Ucs2 = true
 isUcs2 Wap = false
 
-abbrev pub textRules : Reading → List Rule
+unfoldable pub textRules : Reading → List Rule
 textRules r =
     when (r .compressed) Compressed
     ∷ when (isData (r .alphabet)) NoText

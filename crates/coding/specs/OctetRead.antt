@@ -106,7 +106,7 @@ readPage o =
     (lastReading o (userClassOf (bitsOf o 1 0)))))))))))
 
 -- only an old page refuses: its bits 3..0 must be 0
-abbrev pub octetRules : Service → ℕ → List Rule
+unfoldable pub octetRules : Service → ℕ → List Rule
 octetRules ShortMessage o = []
 octetRules Broadcast o = []
 octetRules Ussd o = []

@@ -45,8 +45,8 @@ lengthRules service r count o room =
 unfoldable pub readRules : Service → ℕ → ℕ → List ℕ → ℕ → List Rule
 readRules service coding count o room =
     octetRules service coding
-    ++ textRules (readUnder service coding)
-    ++ lengthRules service (readUnder service coding) count o room
+    ++ (textRules (readUnder service coding)
+    ++ lengthRules service (readUnder service coding) count o room)
 
 unfoldable pub readAnswers : Service → ℕ → ℕ → List ℕ → ℕ → MessageRead
 readAnswers service coding count o room =

@@ -56,7 +56,7 @@ sizeRules service r units room =
     ∷ []
 
 unfoldable pub writeRules : Service → Reading → List ℕ → ℕ → List Rule
-writeRules service r units room = codingRules service r ++ textRules r ++ sizeRules service r units room
+writeRules service r units room = codingRules service r ++ (textRules r ++ sizeRules service r units room)
 
 unfoldable pub writeAnswers : Service → Reading → List ℕ → ℕ → MessageWritten
 writeAnswers service r units room =

@@ -2,7 +2,7 @@
 use Rattle.coding.proofs.Old.{old-refused, old-read}
 use Rattle.coding.proofs.Octets.{short-key-is, page-key-is, key-valid, key-back}
 use Rattle.coding.specs.declared.OctetRead.the-variants.{Done}
-use Rattle.coding.specs.OctetRead.{octetReads, readShort, readPage}
+use Rattle.coding.specs.OctetRead.{octetRules, octetReads, readShort, readPage}
 use Rattle.words.specs.Judging.{verdict}
 use Rattle.words.specs.declared.Service.{Service}
 use mathlib.Core.Path.{ap, sym, _∙_}
@@ -44,15 +44,15 @@ plain-requires : tie.Need-plain-requires
 plain-requires c κs = search needs
 
 returns : tie.Need-returns
-unfolding octetReads verdict
+unfolding octetReads octetRules verdict
 returns c = let o = c .before .before .before .before .args .octet in simp (c .before .before .enum-told .given .1, c .reading-of .ensures, key-back (readShort o) _ (c .before .short-key .ensures ∙ short-key-is o (search needs)))
 
 returns-2 : tie.Need-returns-2
-unfolding octetReads verdict
+unfolding octetReads octetRules verdict
 returns-2 c = let o = c .before .before .before .before .args .octet in simp (c .before .before .enum-told2 .given .1, c .reading-of2 .ensures, key-back (readPage o) _ (c .before .page-key .ensures ∙ page-key-is o (search needs)))
 
 returns-3 : tie.Need-returns-3
-unfolding octetReads verdict
+unfolding octetReads octetRules verdict
 returns-3 c = let o = c .before .before .before .before .args .octet in simp (c .before .before .enum-told3 .given .1, c .reading-of3 .ensures, key-back (readPage o) _ (c .before .page-key2 .ensures ∙ page-key-is o (search needs)))
 
 returns-4 : tie.Need-returns-4
