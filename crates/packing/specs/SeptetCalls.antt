@@ -25,7 +25,8 @@ use Rattle.packing.specs.declared.Packed.{Packed}
 use Rattle.packing.specs.declared.Packed.the-variants as done
 use Rattle.stream.specs.Stream.{octetsFor, packed, unpacked}
 use Rattle.stream.specs.UssdPacking.{ussdOctets, ussdSeptets}
-use Rattle.stream.specs.Pages.{pageOctets, pageSeptets, oldPageSeptets}
+use Rattle.stream.specs.Pages.{pageOctets, pageSeptets}
+use Rattle.stream.specs.OldPage.{oldPageSeptets}
 
 abbrev pub isOldPage : Service → Bool
 isOldPage ShortMessage = false

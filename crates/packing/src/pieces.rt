@@ -1,6 +1,6 @@
 // Pieces of one width into pieces of another, through one number of 64 bits: eight septets are seven octets.
 ghost use mathlib.Core.Path.{_≡_};
-ghost use Prim.Native.Nat.{ℕ, _+_, _-_, _*_, _/_, _%_, _^_, _≤_, _<_};
+ghost use Prim.Native.Nat.{ℕ, _+_, _*_, _^_, _≤_, _<_};
 ghost use mathlib.Core.List.{_++_};
 ghost use lib.ListN.{length, getD, take, drop};
 ghost use Rattle.words.specs.Lists.{laid};
@@ -14,6 +14,7 @@ pub(crate) fn octets_for(n: usize) -> usize
     n - n / 8
 }
 
+// An octet as a wide number; as a call it asks no proof of its range.
 fn wide(x: u8) -> u64
     ensures { λ r. ⌜ r ≡ x ⌝ }
 {

@@ -1,7 +1,6 @@
 // The packings of septets: the test of each septet, the CR that USSD adds and drops, and the page of 93 septets.
 ghost use mathlib.Core.Path.{_≡_};
-ghost use mathlib.Core.Bool.{Bool};
-ghost use Prim.Native.Nat.{ℕ, _+_, _-_, _*_, _/_, _%_, _^_, _≤_, _<_};
+ghost use Prim.Native.Nat.{ℕ, _+_, _≤_, _<_};
 ghost use lib.Dec.{leb};
 ghost use lib.ListN.{length, getD, take, drop};
 ghost use Rattle.words.specs.Lists.{laid, firstPlace};
@@ -20,7 +19,7 @@ use words::Filled;
 use words::Refusal;
 use words::Service;
 
-// The bits that any septet has. One test of the result judges them all, and the loop is one that compilers turn to wide registers.
+// The bits that any septet has: one test of the result judges them all. The loop vectorises, sixteen septets at a time.
 fn all_bits(septets: &[u8]) -> u8
     ensures { λ r. ⌜ ((k : ℕ) → getD (now (septets .entry)) k 0 ≤ r) ⌝ }
 {
@@ -69,7 +68,7 @@ pub(crate) fn adds_cr(septets: &[u8]) -> bool
 
 // How many septets there are with the CR, where one is added.
 fn with_cr(n: usize, adds: bool) -> usize
-    requires { ⌜ n < 1000 ⌝ }
+    requires { ⌜ n ≤ 182 ⌝ }
     ensures { λ r. ⌜ r ≡ withCount adds n ⌝ }
 {
     if adds { n + 1 } else { n }

@@ -1,6 +1,6 @@
 // UCS2 units as octets, high octet first, and the page of 41 units.
 ghost use mathlib.Core.Path.{_≡_};
-ghost use Prim.Native.Nat.{ℕ, _+_, _-_, _*_, _/_, _%_, _^_, _≤_, _<_};
+ghost use Prim.Native.Nat.{_+_, _*_, _≤_, _<_};
 ghost use lib.ListN.{length, take, getD};
 ghost use Rattle.words.specs.Closing.{withoutClosing};
 ghost use Rattle.stream.specs.Ucs2.{unitOctets, octetUnits, unitPage};

@@ -13,7 +13,7 @@
 --   ussd-back-doubled      those whose length is a non-zero multiple of 8 and which end in CR: these come back with one CR more
 --   ussd-iff               two texts have the same octets exactly when they are the same or differ by that CR (C6 and C7)
 -- Broadcast page, and UCS2
---   page-length, page-end  a page has 82 octets, and its last five bits are 0
+--   page-octets-length, page-end   a page has 82 octets, and its last five bits are 0
 --   page-back, page-iff    a page gives the septets back without closing CRs, and pages are equal exactly when those are
 --   old-page-back          an old page that was filled with zero septets gives the septets back without closing zeros
 --   units-back, units-injective, octets-back   UCS2 octets and units, one to one
@@ -34,7 +34,8 @@ use Rattle.words.specs.Closing.{withoutClosing}
 use Rattle.words.proofs.Below.{Below}
 use Rattle.stream.specs.Stream.{streamBit, octetsFor, packed, unpacked}
 use Rattle.stream.specs.UssdPacking.{last, ussdOctets, ussdSeptets}
-use Rattle.stream.specs.Pages.{page, pageOctets, pageSeptets, oldPageSeptets}
+use Rattle.stream.specs.Pages.{page, pageOctets, pageSeptets}
+use Rattle.stream.specs.OldPage.{oldPageSeptets}
 use Rattle.stream.specs.Ucs2.{unitOctets, octetUnits, unitPage}
 use Rattle.stream.proofs.Stream.{packed-length, packed-below, unpacked-packed}
 use Rattle.stream.proofs.Bits.{cut-bit, stream-bit, stream-end, cut-agree, same-bits}

@@ -1,9 +1,8 @@
--- Document 01, "Packing": the 93 septets of a broadcast page, and of an old page of 1991, in 82 octets.
+-- Document 01, "Packing": the 93 septets of a broadcast page, in 82 octets.
 -- Own rule: none. Cited by packing::pack and packing::unpack. Assumes nothing.
---   page s           == the 93 septets of a page with the text s
---   pageOctets s     == the octets of that page; its last five bits are spare
---   pageSeptets o    == the text of the page whose octets are o: every closing CR is dropped
---   oldPageSeptets o == the text of the old page whose octets are o: every closing zero septet is dropped
+--   page s        == the 93 septets of a page with the text s
+--   pageOctets s  == the octets of that page; its last five bits are spare
+--   pageSeptets o == the text of the page whose octets are o: every closing CR is dropped
 use Prim.Native.Nat.{ℕ}
 use mathlib.Core.List.{List}
 use lib.ListN.{replicate}
@@ -20,6 +19,3 @@ pageOctets s = packed (page s)
 
 unfoldable pub pageSeptets : List ℕ → List ℕ
 pageSeptets o = withoutClosing 13 (unpacked 93 o)
-
-unfoldable pub oldPageSeptets : List ℕ → List ℕ
-oldPageSeptets o = withoutClosing 0 (unpacked 93 o)

@@ -9,7 +9,8 @@ use Rattle.words.specs.declared.Service.{Service}
 use Rattle.words.specs.declared.Service.the-variants.{ShortMessage, Broadcast, Ussd, OldPage}
 use Rattle.words.specs.Judging.{verdict}
 use Rattle.stream.specs.Stream.{octetsFor, unpacked}
-use Rattle.stream.specs.Pages.{pageSeptets, oldPageSeptets}
+use Rattle.stream.specs.Pages.{pageSeptets}
+use Rattle.stream.specs.OldPage.{oldPageSeptets}
 use Rattle.packing.specs.SeptetCalls.{septetsFit, unpackRules, unpackAnswers, unpackLeaves}
 use Rattle.packing.proofs.Given.{Gives}
 use Rattle.stream.proofs.Ussd.{kept-octets, kept-septets}
