@@ -7,7 +7,7 @@ use mathlib.Core.List.{List, [], _∷_, _++_}
 use Prim.Native.Nat.{ℕ, _+_, _*_, _/_, _≤_, _<_}
 use native.Mathlib.Decide.{decLe}
 use native.Mathlib.Omega.{arith}
-use lib.Dec.{T, ltb, leb, eqb, leb→le}
+use lib.Dec.{T, ltb, leb, eqb, leb→le, lit≤}
 use lib.ListN.{length, getD, take}
 use lib.Seq.{take-append-le, take-length}
 use borrow.Author.Tests.{lt-ltb, le-ltb, le-leb, lt-leb}
@@ -52,7 +52,7 @@ septets-run : (service : Service) (count : ℕ) (o : List ℕ) → Below 256 o �
 unfolding pageSeptets oldPageSeptets
 septets-run ShortMessage count o h = ap (λ (n : ℕ). unpacked n o) (sym (unpacked-length count o))
 septets-run Broadcast count o h = closed-run 13 o
-septets-run Ussd count o h = sym (kept-septets o h)
+septets-run Ussd count o h = sym (kept-septets o)
 septets-run OldPage count o h = closed-run 0 o
 
 pub read-below : (service : Service) (count : ℕ) (o : List ℕ) → Below 256 o → Below 128 (septetsOf service count o)
@@ -64,7 +64,110 @@ and-left false b e = subst T (sym e) tt
 
 pub read-most : (service : Service) (count : ℕ) (o : List ℕ) → Below 256 o → septetsFit service (length o) count ≡ true → length (septetsOf service count o) ≤ 182
 unfolding pageSeptets oldPageSeptets octetsFor
-read-most ShortMessage count o h e = omega (arith, unpacked-length count o, leb→le _ _ (and-left (leb count 160) (eqb (length o) (octetsFor count)) e))
+read-most ShortMessage count o h e = omega (arith, unpacked-length count o, leb→le count 160 (and-left (leb count 160) (eqb (length o) (octetsFor count)) e))
 read-most Broadcast count o h e = omega (arith, closing-length 13 (unpacked 93 o), unpacked-length 93 o)
-read-most Ussd count o h e = omega (arith, kept-octets o h, fit-ussd (length o) count e)
+read-most Ussd count o h e = omega (arith, kept-octets o, fit-ussd (length o) count e)
 read-most OldPage count o h e = omega (arith, closing-length 0 (unpacked 93 o), unpacked-length 93 o)
+
+-- what unpacking into the array tells: the octets do not fit, or the run of septets stands at its front
+module _ (service : Service) (count : ℕ) (o array : List ℕ) (h : Below 256 o) (n : length array ≡ 182) where
+  unfit-answers : septetsFit service (length o) count ≡ false → unpackAnswers service o count (length array) ≡ Refused WrongLength
+  unfolding unpackAnswers unpackRules verdict
+  unfit-answers e = simp e
+
+  fit-answers : septetsFit service (length o) count ≡ true → unpackAnswers service o count (length array) ≡ Done (length (septetsOf service count o))
+  unfolding unpackAnswers unpackRules verdict
+  fit-answers e = let room : length (septetsOf service count o) ≤ length array = omega (arith, read-most service count o h e) in simp (e, le-ltb _ _ room)
+
+  fit-leaves : septetsFit service (length o) count ≡ true → unpackLeaves service o count array ≡ laid (septetsOf service count o) array
+  unfolding unpackLeaves unpackRules verdict
+  fit-leaves e = let room : length (septetsOf service count o) ≤ length array = omega (arith, read-most service count o h e) in simp (e, le-ltb _ _ room)
+
+  by-fit : {A : Type 0} → (septetsFit service (length o) count ≡ true → A) → (septetsFit service (length o) count ≡ false → A) → A
+  by-fit {A} f g = go (septetsFit service (length o) count) refl
+    where
+      go : (b : Bool) → septetsFit service (length o) count ≡ b → A
+      go true e = f e
+      go false e = g e
+
+  pub unpacked-fits : (k : ℕ) → Done k ≡ unpackAnswers service o count (length array) → septetsFit service (length o) count ≡ true
+  unpacked-fits k e = by-fit (λ (f : septetsFit service (length o) count ≡ true). f) (λ (g : septetsFit service (length o) count ≡ false). absurd (done-or-refused k (e ∙ unfit-answers g)))
+    where
+      done-or-refused : (k : ℕ) → Done k ≡ Refused WrongLength → ⊥
+      done-or-refused k e = let z : _≡_ {A = ℕ} 0 1 = cc in omega arith
+
+  pub unpacked-count : (k : ℕ) → Done k ≡ unpackAnswers service o count (length array) → k ≡ length (septetsOf service count o)
+  unpacked-count k e = let d : Done k ≡ Done (length (septetsOf service count o)) = e ∙ fit-answers (unpacked-fits k e) in cc
+
+  pub unpacked-run : (k : ℕ) (left : List ℕ) → Done k ≡ unpackAnswers service o count (length array) → left ≡ unpackLeaves service o count array → take k left ≡ septetsOf service count o
+  unfolding laid
+  unpacked-run k left e l =
+      let s : List ℕ = septetsOf service count o in
+      let all : left ≡ laid s array = l ∙ fit-leaves (unpacked-fits k e) in
+      ap₂ take (unpacked-count k e) all ∙ take-append-le (length s) s _ (omega arith) ∙ take-length s
+
+  pub unpacked-room : (k : ℕ) (left : List ℕ) → Done k ≡ unpackAnswers service o count (length array) → left ≡ unpackLeaves service o count array → k ≤ length left
+  unpacked-room k left e l =
+      let f = unpacked-fits k e in
+      let m : length (septetsOf service count o) ≤ 182 = read-most service count o h f in
+      let long : length left ≡ length array = ap length (l ∙ fit-leaves f) ∙ laid-length (septetsOf service count o) array (omega arith) in
+      omega (arith, unpacked-count k e)
+
+  -- octets that do not fit are refused by the reader of 7-bit text
+  pub unpacked-refused : (q : Refusal) (out : List ℕ) → Refused q ≡ unpackAnswers service o count (length array)
+      → (Refused q ≡ septetReads service count o (length out)) × (out ≡ septetReadLeaves service count o out)
+  unfolding septetReads septetReadLeaves septetReadRules verdict
+  unpacked-refused q out e =
+      by-fit
+      (λ (f : septetsFit service (length o) count ≡ true). absurd (refused-or-done q (e ∙ fit-answers f)))
+      (λ (g : septetsFit service (length o) count ≡ false). simp g (e ∙ unfit-answers g, refl))
+    where
+      refused-or-done : (q : Refusal) → Refused q ≡ Done (length (septetsOf service count o)) → ⊥
+      refused-or-done q e = let z : _≡_ {A = ℕ} 0 1 = cc in omega arith
+
+-- septets below 128 are never refused 9
+pub none-wide : (s : List ℕ) → Below 128 s → firstPlace (λ x. leb 128 x) s ≡ length s
+none-wide s h = place-none (λ x. leb 128 x) s (λ k l. lt-leb 128 (getD s k 0) (h k))
+
+-- reading the run by the alphabet is reading the octets
+shown-run : (service : Service) (count : ℕ) (o out : List ℕ) → Below 256 o → septetsFit service (length o) count ≡ true
+    → (textAnswers (septetsOf service count o) (shownSeptets service (septetsOf service count o)) (length out) ≡ septetReads service count o (length out))
+    × (textLeaves (septetsOf service count o) (shownSeptets service (septetsOf service count o)) out ≡ septetReadLeaves service count o out)
+unfolding textAnswers textLeaves textRules septetReads septetReadLeaves septetReadRules verdict
+shown-run service count o out h f =
+    let s : List ℕ = septetsOf service count o in
+    let wide : firstPlace (λ x. leb 128 x) s ≡ length s = none-wide s (read-below service count o h) in
+    simp (f, le-ltb (firstPlace (λ x. leb 128 x) s) (length s) (omega arith)) (refl, refl)
+
+pub shown-reads : (service : Service) (count : ℕ) (o out : List ℕ) → Below 256 o → septetsFit service (length o) count ≡ true → (s : List ℕ) → s ≡ septetsOf service count o
+    → (textAnswers s (shownSeptets service s) (length out) ≡ septetReads service count o (length out)) × (textLeaves s (shownSeptets service s) out ≡ septetReadLeaves service count o out)
+shown-reads service count o out h f s e =
+    subst (λ (s : List ℕ). (textAnswers s (shownSeptets service s) (length out) ≡ septetReads service count o (length out)) × (textLeaves s (shownSeptets service s) out ≡ septetReadLeaves service count o out))
+    (sym e) (shown-run service count o out h f)
+
+-- ---- writing
+
+-- the array has room for every service
+pub most-182 : (service : Service) → mostSeptets service ≤ 182
+most-182 ShortMessage = lit≤ tt
+most-182 Broadcast = lit≤ tt
+most-182 Ussd = lit≤ tt
+most-182 OldPage = lit≤ tt
+
+-- what the alphabet says of a text: a unit is unlisted, the array is too short, or the run of septets stands at its front
+data Written (units array : List ℕ) : Filled → List ℕ → Type 0 where
+  stopped : firstUnlisted units < length units → Written units array (Refused (Unlisted (firstUnlisted units))) array
+  short : length units ≤ firstUnlisted units → length array < length (septetsOf′ units) → Written units array (Refused NoRoom) array
+  whole : length units ≤ firstUnlisted units → length (septetsOf′ units) ≤ length array → Written units array (Done (length (septetsOf′ units))) (laid (septetsOf′ units) array)
+
+pub written-so : (units array : List ℕ) → Written units array (septetsAnswers units (length array)) (septetsLeaves units array)
+unfolding septetsAnswers septetsLeaves septetsRules verdict
+written-so units array =
+    elim (decLe (length units) (firstUnlisted units)) [
+      no l ↦ let u : firstUnlisted units < length units = omega arith in simp (lt-ltb _ _ u) (stopped u)
+    | yes l ↦
+        elim (decLe (length (septetsOf′ units)) (length array)) [
+          no m ↦ let r : length array < length (septetsOf′ units) = omega arith in simp (le-ltb _ _ l, lt-ltb _ _ r) (short l r)
+        | yes m ↦ simp (le-ltb _ _ l, le-ltb _ _ m) (whole l m)
+        ]
+    ]
