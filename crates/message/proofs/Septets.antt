@@ -20,7 +20,7 @@ use Rattle.words.specs.declared.Filled.the-variants.{Done, Refused}
 use Rattle.words.specs.Sizes.{mostSeptets, isOldPage}
 use Rattle.words.specs.Lists.{firstPlace, laid}
 use Rattle.words.specs.Closing.{withoutClosing}
-use Rattle.words.specs.Judging.{verdict}
+use Rattle.words.specs.Judging.{Verdict, refused, accepted, verdict, settle}
 use Rattle.words.proofs.Below.{Below}
 use Rattle.words.proofs.Closing.{closing-front, closing-length}
 use Rattle.words.proofs.Laid.{laid-length}
@@ -36,6 +36,7 @@ use Rattle.stream.proofs.Stream.{unpacked-length, unpacked-take, unpacked-below
 use Rattle.stream.proofs.Ussd.{kept-octets, kept-septets}
 use Rattle.packing.specs.SeptetCalls.{septetsFit, septetsOf, octetsOf, countOf, packRules, packAnswers, packLeaves, unpackRules, unpackAnswers, unpackLeaves}
 use Rattle.packing.proofs.Calls.{fit-ussd}
+use Rattle.packing.specs.declared.Packed.the-variants as packed
 use Rattle.message.specs.declared.MessageWritten.the-variants as written
 use Rattle.message.specs.MessageRead.{shownSeptets}
 use Rattle.message.specs.Inner.{septetReadRules, septetReads, septetReadLeaves, septetWriteRules, septetWrites, septetWriteLeaves, packedAs, asTooLong}
@@ -154,20 +155,88 @@ most-182 Broadcast = lit≤ tt
 most-182 Ussd = lit≤ tt
 most-182 OldPage = lit≤ tt
 
--- what the alphabet says of a text: a unit is unlisted, the array is too short, or the run of septets stands at its front
-data Written (units array : List ℕ) : Filled → List ℕ → Type 0 where
-  stopped : firstUnlisted units < length units → Written units array (Refused (Unlisted (firstUnlisted units))) array
-  short : length units ≤ firstUnlisted units → length array < length (septetsOf′ units) → Written units array (Refused NoRoom) array
-  whole : length units ≤ firstUnlisted units → length (septetsOf′ units) ≤ length array → Written units array (Done (length (septetsOf′ units))) (laid (septetsOf′ units) array)
+packed-settle : (v : Verdict) (m n coding : ℕ) → packedAs coding (settle v packed.Refused (packed.Done m n)) ≡ settle v written.Refused (written.Done m n coding)
+packed-settle (refused q) m n coding = refl
+packed-settle accepted m n coding = refl
 
-pub written-so : (units array : List ℕ) → Written units array (septetsAnswers units (length array)) (septetsLeaves units array)
-unfolding septetsAnswers septetsLeaves septetsRules verdict
-written-so units array =
-    elim (decLe (length units) (firstUnlisted units)) [
-      no l ↦ let u : firstUnlisted units < length units = omega arith in simp (lt-ltb _ _ u) (stopped u)
-    | yes l ↦
-        elim (decLe (length (septetsOf′ units)) (length array)) [
-          no m ↦ let r : length array < length (septetsOf′ units) = omega arith in simp (le-ltb _ _ l, lt-ltb _ _ r) (short l r)
-        | yes m ↦ simp (le-ltb _ _ l, le-ltb _ _ m) (whole l m)
-        ]
-    ]
+module _ (units array : List ℕ) (n : length array ≡ 182) where
+  -- what the alphabet says of a text: a unit is unlisted, the array is too short, or the septets stand at its front
+  stopped-answers : firstUnlisted units < length units → septetsAnswers units (length array) ≡ Refused (Unlisted (firstUnlisted units))
+  unfolding septetsAnswers septetsRules verdict
+  stopped-answers l = simp (lt-ltb _ _ l)
+
+  short-answers : length units ≤ firstUnlisted units → length array < length (septetsOf′ units) → septetsAnswers units (length array) ≡ Refused NoRoom
+  unfolding septetsAnswers septetsRules verdict
+  short-answers l m = simp (le-ltb _ _ l, lt-ltb _ _ m)
+
+  whole-answers : length units ≤ firstUnlisted units → length (septetsOf′ units) ≤ length array → septetsAnswers units (length array) ≡ Done (length (septetsOf′ units))
+  unfolding septetsAnswers septetsRules verdict
+  whole-answers l m = simp (le-ltb _ _ l, le-ltb _ _ m)
+
+  whole-leaves : length units ≤ firstUnlisted units → length (septetsOf′ units) ≤ length array → septetsLeaves units array ≡ laid (septetsOf′ units) array
+  unfolding septetsLeaves septetsRules verdict
+  whole-leaves l m = simp (le-ltb _ _ l, le-ltb _ _ m)
+
+  by-text : {A : Type 0} → (firstUnlisted units < length units → A) → (length units ≤ firstUnlisted units → length array < length (septetsOf′ units) → A)
+      → (length units ≤ firstUnlisted units → length (septetsOf′ units) ≤ length array → A) → A
+  by-text f g h =
+      elim (decLe (length units) (firstUnlisted units)) [
+        no l ↦ f (omega arith)
+      | yes l ↦ elim (decLe (length (septetsOf′ units)) (length array)) [ no m ↦ g l (omega arith) | yes m ↦ h l m ]
+      ]
+
+  done-or-refused : (k : ℕ) (q : Refusal) → Done k ≡ Refused q → ⊥
+  done-or-refused k q e = let z : _≡_ {A = ℕ} 0 1 = cc in omega arith
+
+  pub written-whole : (k : ℕ) → Done k ≡ septetsAnswers units (length array) → (length units ≤ firstUnlisted units) × (length (septetsOf′ units) ≤ length array)
+  written-whole k e =
+      by-text (λ l. absurd (done-or-refused k (Unlisted (firstUnlisted units)) (e ∙ stopped-answers l))) (λ l m. absurd (done-or-refused k NoRoom (e ∙ short-answers l m))) (λ l m. (l, m))
+
+  pub written-count : (k : ℕ) → Done k ≡ septetsAnswers units (length array) → k ≡ length (septetsOf′ units)
+  written-count k e =
+      let w = written-whole k e in
+      let d : Done k ≡ Done (length (septetsOf′ units)) = e ∙ whole-answers (w .0) (w .1) in
+      cc
+
+  pub written-run : (k : ℕ) (left : List ℕ) → Done k ≡ septetsAnswers units (length array) → left ≡ septetsLeaves units array → take k left ≡ septetsOf′ units
+  unfolding laid
+  written-run k left e l =
+      let w = written-whole k e in
+      let s : List ℕ = septetsOf′ units in
+      ap₂ take (written-count k e) (l ∙ whole-leaves (w .0) (w .1)) ∙ take-append-le (length s) s _ (omega arith) ∙ take-length s
+
+  pub written-room : (k : ℕ) (left : List ℕ) → Done k ≡ septetsAnswers units (length array) → left ≡ septetsLeaves units array → k ≤ length left
+  written-room k left e l =
+      let w = written-whole k e in
+      let fits : length (septetsOf′ units) ≤ length array = w .1 in
+      let long : length left ≡ length array = ap length (l ∙ whole-leaves (w .0) (w .1)) ∙ laid-length (septetsOf′ units) array fits in
+      omega (arith, written-count k e)
+
+  -- what the alphabet refuses, the writer of 7-bit text refuses: a text without room in the array is too long for the service
+  pub written-refused : (service : Service) (coding : ℕ) (q : Refusal) (out : List ℕ) → Refused q ≡ septetsAnswers units (length array)
+      → (written.Refused (asTooLong q) ≡ septetWrites service coding units (length out)) × (out ≡ septetWriteLeaves service units out)
+  unfolding septetWrites septetWriteLeaves septetWriteRules verdict
+  written-refused service coding q out e =
+      by-text
+      (λ l. let d : Refused q ≡ Refused (Unlisted (firstUnlisted units)) = e ∙ stopped-answers l in let s : q ≡ Unlisted (firstUnlisted units) = cc in simp (s, lt-ltb _ _ l) (refl, refl))
+      (λ l m. let d : Refused q ≡ Refused NoRoom = e ∙ short-answers l m in let s : q ≡ NoRoom = cc in
+      let over : mostSeptets service < length (septetsOf′ units) = omega (arith, most-182 service) in
+      simp (s, le-ltb _ _ l, lt-ltb _ _ over) (refl, refl))
+      (λ l m. absurd (done-or-refused (length (septetsOf′ units)) q (sym (e ∙ whole-answers l m))))
+
+-- packing the run is writing the text
+packed-run : (service : Service) (coding : ℕ) (units out : List ℕ) → isOldPage service ≡ false → length units ≤ firstUnlisted units
+    → (packedAs coding (packAnswers service (septetsOf′ units) (length out)) ≡ septetWrites service coding units (length out))
+    × (packLeaves service (septetsOf′ units) out ≡ septetWriteLeaves service units out)
+unfolding packAnswers packLeaves packRules septetWrites septetWriteLeaves septetWriteRules verdict
+packed-run service coding units out new l =
+    let s : List ℕ = septetsOf′ units in
+    let wide : firstPlace (λ x. leb 128 x) s ≡ length s = none-wide s (septets-below units) in
+    let high : length s ≤ firstPlace (leb 128) s = omega arith in
+    simp (packed-settle, new, le-ltb (firstPlace (leb 128) s) (length s) high, le-ltb _ _ l) (refl, refl)
+
+pub packed-writes : (service : Service) (coding : ℕ) (units out : List ℕ) → isOldPage service ≡ false → length units ≤ firstUnlisted units → (s : List ℕ) → s ≡ septetsOf′ units
+    → (packedAs coding (packAnswers service s (length out)) ≡ septetWrites service coding units (length out)) × (packLeaves service s out ≡ septetWriteLeaves service units out)
+packed-writes service coding units out new l s e =
+    subst (λ (s : List ℕ). (packedAs coding (packAnswers service s (length out)) ≡ septetWrites service coding units (length out)) × (packLeaves service s out ≡ septetWriteLeaves service units out))
+    (sym e) (packed-run service coding units out new l)

@@ -1,3 +1,9 @@
+use Rattle.message.specs.Inner.{packedAs}
+use denote.Ref.{now}
+use lib.ListN.{length, replicate}
+use Prim.Native.Nat.{ℕ}
+use mathlib.Core.List.{List}
+use mathlib.Core.Path.{_≡_, refl, ap, sym, _∙_}
 use borrow.Author.Needs.{needs}
 use Rattle.message.proofs.pack_septets.Statement.{statement}
 use Rattle.message.proofs.pack_septets.Tie as tie
@@ -23,7 +29,7 @@ same-length c = search needs
 
 -- src/lib.rt:209:1
 returns : tie.Need-returns
-returns c = ?
+returns c = (ap (packedAs (c .before .before .before .before .before .before .before .before .before .args .coding)) (sym (c .before .octets .given .1) ∙ c .before .before .before .before .before .pack .ensures .0), c .before .before .before .before .before .pack .ensures .1)
 
 -- src/lib.rt:209:1
 same-length-2 : tie.Need-same-length-2
@@ -31,7 +37,7 @@ same-length-2 c = search needs
 
 -- src/lib.rt:209:1
 returns-2 : tie.Need-returns-2
-returns-2 c = ?
+returns-2 c = (ap (packedAs (c .before .before .before .before .before .before .before .before .before .args .coding)) (sym (c .before .refusal .given .1) ∙ c .before .before .before .before .before .pack .ensures .0), c .before .before .before .before .before .pack .ensures .1)
 
 pub pack-septets-spec : {M : Type 1} → statement M
 pack-septets-spec =

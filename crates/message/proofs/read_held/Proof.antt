@@ -1,3 +1,11 @@
+use Rattle.message.proofs.Steps.{held-septets, held-units, held-refused}
+use Rattle.message.specs.Inner.{shownAs}
+use Rattle.words.specs.declared.Service.{Service}
+use denote.Ref.{now}
+use lib.ListN.{length, replicate}
+use Prim.Native.Nat.{ℕ}
+use mathlib.Core.List.{List}
+use mathlib.Core.Path.{_≡_, refl, ap, sym, _∙_}
 use borrow.Author.Needs.{needs}
 use Rattle.message.proofs.read_held.Statement.{statement}
 use Rattle.message.proofs.read_held.Tie as tie
@@ -46,7 +54,7 @@ same-length c = search needs
 
 -- src/lib.rt:61:1
 returns : tie.Need-returns
-returns c = ?
+returns c = let a = c .before .before .before .before .before .before .before .before .before .before .args in let s = held-septets (a .service) (a .reading) (a .count) (now (a .octets)) (now (a .out)) (sym (c .before .before .before .before .before .enum-told .given .1) ∙ c .before .before .before .before .before .before .before .holds .ensures) in (c .shown .ensures ∙ ap (shownAs (a .reading)) (c .before .before .before .read-septets .ensures .0) ∙ s .0, c .before .before .before .read-septets .ensures .1 ∙ s .1)
 
 -- src/lib.rt:61:1
 same-length-2 : tie.Need-same-length-2
@@ -54,11 +62,11 @@ same-length-2 c = search needs
 
 -- src/lib.rt:61:1
 returns-2 : tie.Need-returns-2
-returns-2 c = ?
+returns-2 c = let a = c .before .before .before .before .before .before .before .before .before .before .args in let s = held-units (a .service) (a .reading) (a .count) (now (a .octets)) (now (a .out)) (sym (c .before .before .before .before .before .enum-told2 .given .1) ∙ c .before .before .before .before .before .before .before .holds .ensures) in (c .shown2 .ensures ∙ ap (shownAs (a .reading)) (c .before .before .before .octets-to-units .ensures .0) ∙ s .0, c .before .before .before .octets-to-units .ensures .1 ∙ s .1)
 
 -- src/lib.rt:61:1
 returns-3 : tie.Need-returns-3
-returns-3 c = ?
+returns-3 c = let a = c .before .before .before .before .before .before .args in held-refused (a .service) (a .reading) (a .count) (now (a .octets)) (now (a .out)) _ (sym (c .before .refusal .given .1) ∙ c .before .before .before .holds .ensures)
 
 pub read-held-spec : {M : Type 1} → statement M
 read-held-spec =

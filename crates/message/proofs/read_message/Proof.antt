@@ -1,3 +1,10 @@
+use Rattle.message.proofs.Steps.{read-done, read-refused}
+use Rattle.words.specs.declared.Service.{Service}
+use denote.Ref.{now}
+use lib.ListN.{length, replicate}
+use Prim.Native.Nat.{ℕ}
+use mathlib.Core.List.{List}
+use mathlib.Core.Path.{_≡_, refl, ap, sym, _∙_}
 use borrow.Author.Needs.{needs}
 use Rattle.message.proofs.read_message.Statement.{statement}
 use Rattle.message.proofs.read_message.Tie as tie
@@ -28,11 +35,11 @@ same-length c = search needs
 
 -- src/lib.rt:44:1
 returns : tie.Need-returns
-returns c = ?
+returns c = let a = c .before .before .before .before .before .before .before .before .before .before .args in let s = read-done (a .service) (a .coding) (a .count) (now (a .octets)) (c .before .before .before .before .before .reading .given .0 .0) (now (a .out)) (sym (c .before .before .before .before .before .reading .given .1) ∙ c .before .before .before .before .before .before .before .read-octet .ensures) in (c .before .before .read-held .ensures .0 ∙ s .0, c .before .before .read-held .ensures .1 ∙ s .1)
 
 -- src/lib.rt:44:1
 returns-2 : tie.Need-returns-2
-returns-2 c = ?
+returns-2 c = let a = c .before .before .before .before .before .before .args in read-refused (a .service) (a .coding) (a .count) (now (a .octets)) _ (now (a .out)) (sym (c .before .refusal .given .1) ∙ c .before .before .before .read-octet .ensures)
 
 pub read-message-spec : {M : Type 1} → statement M
 read-message-spec =

@@ -1,3 +1,11 @@
+use Rattle.message.proofs.Septets.{unpacked-fits, unpacked-run, unpacked-room, unpacked-refused, shown-reads}
+use lib.Seq.{length-take-le}
+use Rattle.words.specs.declared.Service.{Service}
+use denote.Ref.{now}
+use lib.ListN.{length, replicate}
+use Prim.Native.Nat.{ℕ}
+use mathlib.Core.List.{List}
+use mathlib.Core.Path.{_≡_, refl, ap, sym, _∙_}
 use borrow.Author.Needs.{needs}
 use Rattle.message.proofs.read_septets.Statement.{statement}
 use Rattle.message.proofs.read_septets.Tie as tie
@@ -20,11 +28,11 @@ enum-known-n c = search needs
 
 -- src/lib.rt:95:50
 array-share-prefix-septets : tie.Need-array-share-prefix-septets
-array-share-prefix-septets c = ?
+array-share-prefix-septets c = let a = c .before .before .before .before .before .before .before .before .args in unpacked-room (a .service) (a .count) (now (a .octets)) (replicate 182 0) (λ i. c .before .before .before .before .before .before .before .shared-slice-known .given i .fits) refl _ _ (sym (c .before .n .given .1) ∙ c .before .before .before .before .unpack .ensures .0) (c .before .before .before .before .unpack .ensures .1)
 
 -- src/lib.rt:95:50
 slice-aggregate-show-septets : tie.Need-slice-aggregate-show-septets
-slice-aggregate-show-septets c = ?
+slice-aggregate-show-septets c = let a = c .before .before .before .before .before .before .before .before .before .args in sym (length-take-le _ _ (unpacked-room (a .service) (a .count) (now (a .octets)) (replicate 182 0) (λ i. c .before .before .before .before .before .before .before .before .shared-slice-known .given i .fits) refl _ _ (sym (c .before .before .n .given .1) ∙ c .before .before .before .before .before .unpack .ensures .0) (c .before .before .before .before .before .unpack .ensures .1)))
 
 -- src/lib.rt:95:28
 show-septets-requires : tie.Need-show-septets-requires
@@ -40,11 +48,11 @@ same-length c = search needs
 
 -- src/lib.rt:89:1
 returns : tie.Need-returns
-returns c = ?
+returns c = let a = c .before .before .before .before .before .before .before .before .before .before .before .before .before .args in let o : List ℕ = now (a .octets) in let e = sym (c .before .before .before .before .before .before .n .given .1) ∙ c .before .before .before .before .before .before .before .before .before .unpack .ensures .0 in let f = unpacked-fits (a .service) (a .count) o (replicate 182 0) (λ i. c .before .before .before .before .before .before .before .before .before .before .before .before .shared-slice-known .given i .fits) refl _ e in let run = unpacked-run (a .service) (a .count) o (replicate 182 0) (λ i. c .before .before .before .before .before .before .before .before .before .before .before .before .shared-slice-known .given i .fits) refl _ _ e (c .before .before .before .before .before .before .before .before .before .unpack .ensures .1) in let s = shown-reads (a .service) (a .count) o (now (a .out)) (λ i. c .before .before .before .before .before .before .before .before .before .before .before .before .shared-slice-known .given i .fits) f _ run in (c .before .before .show-septets .ensures .0 ∙ s .0, c .before .before .show-septets .ensures .1 ∙ s .1)
 
 -- src/lib.rt:89:1
 returns-2 : tie.Need-returns-2
-returns-2 c = ?
+returns-2 c = let a = c .before .before .before .before .before .before .before .before .args in unpacked-refused (a .service) (a .count) (now (a .octets)) (replicate 182 0) (λ i. c .before .before .before .before .before .before .before .shared-slice-known .given i .fits) refl _ (now (a .out)) (sym (c .before .refusal .given .1) ∙ c .before .before .before .before .unpack .ensures .0)
 
 pub read-septets-spec : {M : Type 1} → statement M
 read-septets-spec =

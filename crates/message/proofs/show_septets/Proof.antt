@@ -1,3 +1,11 @@
+use Rattle.message.specs.MessageRead.{shownSeptets}
+use Rattle.alphabet.specs.Reading.{textOf, oldTextOf, textAnswers, textLeaves}
+use Rattle.words.specs.declared.Service.{Service}
+use denote.Ref.{now}
+use lib.ListN.{length, replicate}
+use Prim.Native.Nat.{ℕ}
+use mathlib.Core.List.{List}
+use mathlib.Core.Path.{_≡_, refl, ap, sym, _∙_}
 use borrow.Author.Needs.{needs}
 use Rattle.message.proofs.show_septets.Statement.{statement}
 use Rattle.message.proofs.show_septets.Tie as tie
@@ -44,7 +52,7 @@ same-length c = search needs
 
 -- src/lib.rt:101:1
 returns : tie.Need-returns
-returns c = ?
+returns c = let a = c .before .before .before .before .before .before .before .before .args in let s : List ℕ = now (a .septets) in let e : shownSeptets (a .service) s ≡ textOf s = ap (λ (x : Service). shownSeptets x s) (c .before .before .before .before .enum-told .given .1) in (c .before .before .septets-to-text .ensures .0 ∙ ap (λ (t : List ℕ). textAnswers s t (length (now (a .out)))) (sym e), c .before .before .septets-to-text .ensures .1 ∙ ap (λ (t : List ℕ). textLeaves s t (now (a .out))) (sym e))
 
 -- src/lib.rt:101:1
 same-length-2 : tie.Need-same-length-2
@@ -52,7 +60,7 @@ same-length-2 c = search needs
 
 -- src/lib.rt:101:1
 returns-2 : tie.Need-returns-2
-returns-2 c = ?
+returns-2 c = let a = c .before .before .before .before .before .before .before .before .args in let s : List ℕ = now (a .septets) in let e : shownSeptets (a .service) s ≡ textOf s = ap (λ (x : Service). shownSeptets x s) (c .before .before .before .before .enum-told2 .given .1) in (c .before .before .septets-to-text2 .ensures .0 ∙ ap (λ (t : List ℕ). textAnswers s t (length (now (a .out)))) (sym e), c .before .before .septets-to-text2 .ensures .1 ∙ ap (λ (t : List ℕ). textLeaves s t (now (a .out))) (sym e))
 
 -- src/lib.rt:101:1
 same-length-3 : tie.Need-same-length-3
@@ -60,7 +68,7 @@ same-length-3 c = search needs
 
 -- src/lib.rt:101:1
 returns-3 : tie.Need-returns-3
-returns-3 c = ?
+returns-3 c = let a = c .before .before .before .before .before .before .before .before .args in let s : List ℕ = now (a .septets) in let e : shownSeptets (a .service) s ≡ textOf s = ap (λ (x : Service). shownSeptets x s) (c .before .before .before .before .enum-told3 .given .1) in (c .before .before .septets-to-text3 .ensures .0 ∙ ap (λ (t : List ℕ). textAnswers s t (length (now (a .out)))) (sym e), c .before .before .septets-to-text3 .ensures .1 ∙ ap (λ (t : List ℕ). textLeaves s t (now (a .out))) (sym e))
 
 -- src/lib.rt:101:1
 same-length-4 : tie.Need-same-length-4
@@ -68,7 +76,7 @@ same-length-4 c = search needs
 
 -- src/lib.rt:101:1
 returns-4 : tie.Need-returns-4
-returns-4 c = ?
+returns-4 c = let a = c .before .before .before .before .before .before .before .before .args in let s : List ℕ = now (a .septets) in let e : shownSeptets (a .service) s ≡ oldTextOf s = ap (λ (x : Service). shownSeptets x s) (c .before .before .before .before .enum-told4 .given .1) in (c .before .before .old-page-to-text .ensures .0 ∙ ap (λ (t : List ℕ). textAnswers s t (length (now (a .out)))) (sym e), c .before .before .old-page-to-text .ensures .1 ∙ ap (λ (t : List ℕ). textLeaves s t (now (a .out))) (sym e))
 
 pub show-septets-spec : {M : Type 1} → statement M
 show-septets-spec =

@@ -1,3 +1,10 @@
+use Rattle.message.proofs.Steps.{held-writes-septets, held-writes-units, held-writes-refused}
+use Rattle.message.specs.Inner.{unitsAs}
+use denote.Ref.{now}
+use lib.ListN.{length, replicate}
+use Prim.Native.Nat.{ℕ}
+use mathlib.Core.List.{List}
+use mathlib.Core.Path.{_≡_, refl, ap, sym, _∙_}
 use borrow.Author.Needs.{needs}
 use Rattle.message.proofs.write_held.Statement.{statement}
 use Rattle.message.proofs.write_held.Tie as tie
@@ -42,7 +49,7 @@ same-length c = search needs
 
 -- src/lib.rt:133:1
 returns : tie.Need-returns
-returns c = ?
+returns c = let a = c .before .before .before .before .before .before .before .before .before .args in let s = held-writes-septets (a .service) (a .reading) (a .coding) (now (a .units)) (now (a .out)) (sym (c .before .before .before .before .enum-told .given .1) ∙ c .before .before .before .before .before .before .holds .ensures) in (c .before .before .write-septets .ensures .0 ∙ s .0, c .before .before .write-septets .ensures .1 ∙ s .1)
 
 -- src/lib.rt:133:1
 same-length-2 : tie.Need-same-length-2
@@ -50,11 +57,11 @@ same-length-2 c = search needs
 
 -- src/lib.rt:133:1
 returns-2 : tie.Need-returns-2
-returns-2 c = ?
+returns-2 c = let a = c .before .before .before .before .before .before .before .before .before .before .args in let s = held-writes-units (a .service) (a .reading) (a .coding) (now (a .units)) (now (a .out)) (sym (c .before .before .before .before .before .enum-told2 .given .1) ∙ c .before .before .before .before .before .before .before .holds .ensures) (c .before .before .before .before .before .before .before .before .before .before .pre) in (c .counted .ensures ∙ ap (unitsAs (a .service) (a .coding)) (c .before .before .before .units-to-octets .ensures .0) ∙ s .0, c .before .before .before .units-to-octets .ensures .1 ∙ s .1)
 
 -- src/lib.rt:133:1
 returns-3 : tie.Need-returns-3
-returns-3 c = ?
+returns-3 c = let a = c .before .before .before .before .before .before .args in held-writes-refused (a .service) (a .reading) (a .coding) (now (a .units)) (now (a .out)) _ (sym (c .before .refusal .given .1) ∙ c .before .before .before .holds .ensures)
 
 pub write-held-spec : {M : Type 1} → statement M
 write-held-spec =
