@@ -128,7 +128,7 @@ septets-append [] v = refl
 septets-append (u ∷ t) v =
     ap (λ (x : List ℕ). septetsFor (listedAs u) ++ x) (septets-append t v) ∙ sym (append-assoc (septetsFor (listedAs u)) (septetsOf t) (septetsOf v))
 
-cr-listed : listedAs 0x000d ≡ Main 0x0d
+pub cr-listed : listedAs 0x000d ≡ Main 0x0d
 unfolding listedAs among beside firstPlace mainTable extension
 cr-listed = refl
 

@@ -7,6 +7,7 @@ use Prim.Native.Nat.{ℕ, _≤_, _<_}
 use native.Mathlib.Omega.{arith}
 use lib.ListN.{length}
 use Rattle.words.specs.declared.Service.{Service}
+use Rattle.words.specs.declared.Service.the-variants.{ShortMessage, Broadcast, Ussd, OldPage}
 use Rattle.words.specs.declared.Refusal.{Refusal}
 use Rattle.words.specs.declared.Filled.{Filled}
 use Rattle.words.specs.declared.Filled.the-variants as filled
@@ -26,35 +27,35 @@ use Rattle.coding.specs.OctetWritten.{smallest, octetWrites, writeRules as codi
 use Rattle.coding.specs.Holding.{isUcs2, textRules, holdsText}
 use Rattle.alphabet.specs.Writing.{septetsOf}
 use Rattle.packing.specs.SeptetCalls.{octetsOf, countOf}
-use Rattle.packing.specs.UnitCalls.{unitsOf, ucs2OctetsOf, toOctetsRules, toOctetsAnswers, toOctetsLeaves, toUnitsAnswers, toUnitsLeaves, toUnitsRules}
+use Rattle.packing.specs.UnitCalls.{unitsOf, ucs2OctetsOf, unitCountOf, toOctetsRules, toOctetsAnswers, toOctetsLeaves, toUnitsAnswers, toUnitsLeaves, toUnitsRules}
 use Rattle.message.specs.declared.MessageRead.{MessageRead}
 use Rattle.message.specs.declared.MessageRead.the-variants as read
 use Rattle.message.specs.declared.MessageWritten.{MessageWritten}
 use Rattle.message.specs.declared.MessageWritten.the-variants as written
 use Rattle.message.specs.MessageRead.{textOfMessage, lengthRules, readRules, readAnswers, readLeaves}
-use Rattle.message.specs.MessageWritten.{ucs2Count, messageOctets, messageCount, sizeRules, writeRules, writeAnswers, writeLeaves}
-use Rattle.message.specs.Inner.{heldReads, heldReadLeaves, septetText, septetReads, septetReadLeaves, septetReadRules, heldWrites, heldWriteLeaves, septetWrites, septetWriteLeaves, septetWriteRules, shownAs, unitsAs}
+use Rattle.message.specs.MessageWritten.{messageOctets, messageCount, sizeRules, writeRules, writeAnswers, writeLeaves}
+use Rattle.message.specs.Inner.{heldReads, heldReadLeaves, septetText, septetReads, septetReadLeaves, septetReadRules, heldWrites, heldWriteLeaves, septetWrites, septetWriteLeaves, septetWriteRules, shownAs, ucs2Count, unitsAs}
 
 -- ---- the verdict that an answer tells
 
-abbrev readTold : OctetRead → Verdict
+abbrev pub readTold : OctetRead → Verdict
 readTold (octet-read.Done r) = accepted
 readTold (octet-read.Refused q) = refused q
 
-abbrev writtenTold : OctetWritten → Verdict
+abbrev pub writtenTold : OctetWritten → Verdict
 writtenTold (octet-written.Done o) = accepted
 writtenTold (octet-written.Refused q) = refused q
 
-abbrev heldTold : Held → Verdict
+abbrev pub heldTold : Held → Verdict
 heldTold held.Septets = accepted
 heldTold held.Units = accepted
 heldTold (held.Refused q) = refused q
 
-octet-verdict : (s : Service) (o : ℕ) (a : OctetRead) → a ≡ octetReads s o → verdict (octetRules s o) ≡ readTold a
+pub octet-verdict : (s : Service) (o : ℕ) (a : OctetRead) → a ≡ octetReads s o → verdict (octetRules s o) ≡ readTold a
 unfolding octetReads
 octet-verdict s o a e = settle-told readTold octet-read.Refused (octet-read.Done (readUnder s o)) (λ q. refl) refl (verdict (octetRules s o)) a e
 
-coding-verdict : (s : Service) (r : Reading) (a : OctetWritten) → a ≡ octetWrites s r → verdict (codingRules s r) ≡ writtenTold a
+pub coding-verdict : (s : Service) (r : Reading) (a : OctetWritten) → a ≡ octetWrites s r → verdict (codingRules s r) ≡ writtenTold a
 unfolding octetWrites
 coding-verdict s r a e = settle-told writtenTold octet-written.Refused (octet-written.Done (smallest s r)) (λ q. refl) refl (verdict (codingRules s r)) a e
 
@@ -67,10 +68,10 @@ held-verdict r a e = settle-told heldTold held.Refused (cond (isUcs2 (r .alphabe
     either false = refl
 
 -- an answer that settles by an accepted verdict is the one given
-settle-given : {A : Type 0} (v : Verdict) (refuse : Refusal → A) (given : A) → v ≡ accepted → settle v refuse given ≡ given
+pub settle-given : {A : Type 0} (v : Verdict) (refuse : Refusal → A) (given : A) → v ≡ accepted → settle v refuse given ≡ given
 settle-given v refuse given e = ap (λ (w : Verdict). settle w refuse given) e
 
-read-given : (s : Service) (o : ℕ) (r : Reading) → octet-read.Done r ≡ octetReads s o → readUnder s o ≡ r
+pub read-given : (s : Service) (o : ℕ) (r : Reading) → octet-read.Done r ≡ octetReads s o → readUnder s o ≡ r
 unfolding octetReads
 read-given s o r e =
     let d : octet-read.Done r ≡ octet-read.Done (readUnder s o) = e ∙ settle-given (verdict (octetRules s o)) octet-read.Refused (octet-read.Done (readUnder s o)) (octet-verdict s o (octet-read.Done r) e) in
@@ -211,6 +212,12 @@ size-septets : (service : Service) (r : Reading) (units : List ℕ) (room : ℕ)
 unfolding sizeRules septetWriteRules
 size-septets service r units room e = simp e
 
+units-count : (service : Service) (units : List ℕ) → unitCountOf service units ≡ ucs2Count service (length (ucs2OctetsOf service units))
+units-count ShortMessage units = refl
+units-count Broadcast units = refl
+units-count Ussd units = refl
+units-count OldPage units = refl
+
 -- where the service writes, 8 and 6 are no rules of UCS2 text
 size-units : (service : Service) (r : Reading) (units : List ℕ) (room : ℕ) → isUcs2 (r .alphabet) ≡ true → isOldPage service ≡ false
     → verdict (sizeRules service r units room) ≡ verdict (toOctetsRules service units room)
@@ -239,7 +246,7 @@ module _ (service : Service) (r : Reading) (coding : ℕ) (units out : List ℕ)
       let b = holds-units r e in
       let v = on-size held.Units (verdict (toOctetsRules service units (length out))) e refl (size-units service r units (length out) b new) in
       let t : messageOctets service r units ≡ ucs2OctetsOf service units = simp b in
-      let n : messageCount service r units ≡ ucs2Count service (length (ucs2OctetsOf service units)) = simp b in
+      let n : messageCount service r units ≡ ucs2Count service (length (ucs2OctetsOf service units)) = simp b (units-count service units) in
       (units-settle (verdict (toOctetsRules service units (length out))) (length (ucs2OctetsOf service units)) service coding ∙ write-agree {c = coding} v t n refl, leaves-agree out v t)
 
   pub held-writes-refused : (q : Refusal) → held.Refused q ≡ holdsText r

@@ -12,6 +12,7 @@ use mathlib.Core.List.{List, [], _∷_, _++_}
 use lib.Dec.{ltb}
 use lib.ListN.{length}
 use Rattle.words.specs.declared.Service.{Service}
+use Rattle.words.specs.declared.Service.the-variants.{ShortMessage, Broadcast, Ussd, OldPage}
 use Rattle.words.specs.declared.Filled.{Filled}
 use Rattle.words.specs.declared.Filled.the-variants as filled
 use Rattle.words.specs.Lists.{laid}
@@ -30,7 +31,7 @@ use Rattle.message.specs.declared.MessageRead.the-variants as read
 use Rattle.message.specs.declared.MessageWritten.{MessageWritten}
 use Rattle.message.specs.declared.MessageWritten.the-variants as written
 use Rattle.message.specs.MessageRead.{shownSeptets, textOfMessage, lengthRules}
-use Rattle.message.specs.MessageWritten.{messageOctets, messageCount, sizeRules, ucs2Count}
+use Rattle.message.specs.MessageWritten.{messageOctets, messageCount, sizeRules}
 
 unfoldable pub heldReads : Service → Reading → ℕ → List ℕ → ℕ → MessageRead
 heldReads service r count o room =
@@ -90,6 +91,13 @@ shownAs r (filled.Refused q) = read.Refused q
 abbrev pub packedAs : ℕ → Packed → MessageWritten
 packedAs coding (packed.Done octets count) = written.Done octets count coding
 packedAs coding (packed.Refused q) = written.Refused q
+
+-- the count of UCS2 text, by its octets
+abbrev pub ucs2Count : Service → ℕ → ℕ
+ucs2Count ShortMessage octets = octets
+ucs2Count Broadcast octets = 0
+ucs2Count Ussd octets = 0
+ucs2Count OldPage octets = 0
 
 abbrev pub unitsAs : Service → ℕ → Filled → MessageWritten
 unitsAs service coding (filled.Done octets) = written.Done octets (ucs2Count service octets) coding

@@ -22,7 +22,7 @@ use Rattle.coding.specs.OctetWritten.{smallest, writeRules as codingRules}
 use Rattle.coding.specs.Holding.{isUcs2, textRules}
 use Rattle.alphabet.specs.Writing.{septetsOf, firstUnlisted}
 use Rattle.packing.specs.SeptetCalls.{octetsOf, countOf}
-use Rattle.packing.specs.UnitCalls.{ucs2OctetsOf}
+use Rattle.packing.specs.UnitCalls.{ucs2OctetsOf, unitCountOf}
 use Rattle.message.specs.declared.MessageWritten.{MessageWritten}
 use Rattle.message.specs.declared.MessageWritten.the-variants.{Done, Refused}
 
@@ -36,16 +36,9 @@ overSize service r units =
 abbrev pub messageOctets : Service → Reading → List ℕ → List ℕ
 messageOctets service r units = cond (isUcs2 (r .alphabet)) (ucs2OctetsOf service units) (octetsOf service (septetsOf units))
 
--- UCS2 counts octets
-abbrev pub ucs2Count : Service → ℕ → ℕ
-ucs2Count ShortMessage octets = octets
-ucs2Count Broadcast octets = 0
-ucs2Count Ussd octets = 0
-ucs2Count OldPage octets = 0
-
 abbrev pub messageCount : Service → Reading → List ℕ → ℕ
 messageCount service r units =
-    cond (isUcs2 (r .alphabet)) (ucs2Count service (length (ucs2OctetsOf service units))) (countOf service (septetsOf units))
+    cond (isUcs2 (r .alphabet)) (unitCountOf service units) (countOf service (septetsOf units))
 
 -- 6, 5, 7, of a text that is written as r
 unfoldable pub sizeRules : Service → Reading → List ℕ → ℕ → List Rule

@@ -34,6 +34,21 @@ verdict-accepted-first [] rest e = refl
 verdict-accepted-first (when true q ∷ first) rest e = absurd (accepted-or-refused q (sym e))
 verdict-accepted-first (when false q ∷ first) rest e = verdict-accepted-first first rest e
 
+-- what an accepted verdict tells of each rule, and what makes one
+pub accepted-rule : (t : Bool) (r : Refusal) (rules : List Rule) → verdict (when t r ∷ rules) ≡ accepted → (t ≡ false) × (verdict rules ≡ accepted)
+unfolding verdict
+accepted-rule true r rules e = absurd (accepted-or-refused r (sym e))
+accepted-rule false r rules e = (refl, e)
+
+pub accepted-parts : (first rest : List Rule) → verdict (first ++ rest) ≡ accepted → (verdict first ≡ accepted) × (verdict rest ≡ accepted)
+unfolding verdict
+accepted-parts [] rest e = (refl, e)
+accepted-parts (when true q ∷ first) rest e = absurd (accepted-or-refused q (sym e))
+accepted-parts (when false q ∷ first) rest e = accepted-parts first rest e
+
+pub accepted-both : (first rest : List Rule) → verdict first ≡ accepted → verdict rest ≡ accepted → verdict (first ++ rest) ≡ accepted
+accepted-both first rest p q = verdict-accepted-first first rest p ∙ q
+
 -- an answer tells the verdict that it settles: told is how the answers are read back
 pub settle-told : {A : Type 0} (told : A → Verdict) (refuse : Refusal → A) (given : A) → ((r : Refusal) → told (refuse r) ≡ refused r) → told given ≡ accepted → (v : Verdict) (a : A) → a ≡ settle v refuse given → v ≡ told a
 settle-told told refuse given p q (refused r) a e = sym (p r) ∙ ap told (sym e)
