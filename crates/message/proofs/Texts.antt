@@ -37,7 +37,7 @@ unfolding firstPlace
 codable-front [] v c = refl
 codable-front (u ∷ t) v c = codable-cons u t (codable-first u (t ++ v) c) (codable-front t v (codable-rest u (t ++ v) c))
 
-cr-codable : isUnlisted (listedAs 0x000d) ≡ false
+pub cr-codable : isUnlisted (listedAs 0x000d) ≡ false
 cr-codable = ap isUnlisted cr-listed
 
 pub codable-closed : (t : List ℕ) → Codable t → Codable (withoutClosing 0x000d t)
@@ -72,3 +72,48 @@ closing-septets =
       where
         ending : (front : List ℕ) (x : ℕ) → (x ≡ 0x000d → ⊥) → EndsIn 0x000d (front ++ (x ∷ [])) → ⊥
         ending front x n w = n (last-unique front (w .0) x 0x000d (w .1) .1)
+
+-- ---- the last septet
+
+last-snoc : (front : List ℕ) (x : ℕ) → last (front ++ (x ∷ [])) ≡ x
+unfolding last
+last-snoc front x =
+    let n : length (front ++ (x ∷ [])) - 1 ≡ length front + 0 = omega (arith, length-append front (x ∷ [])) in
+    ap (λ (k : ℕ). getD (front ++ (x ∷ [])) k 0) n ∙ getD-append-add front (x ∷ []) 0 0
+
+ends-last : (x : ℕ) (s : List ℕ) → EndsIn x s → last s ≡ x
+ends-last x s w = ap last (w .1) ∙ last-snoc (w .0) x
+
+last-ends : (x : ℕ) (s : List ℕ) → 0 < length s → last s ≡ x → EndsIn x s
+last-ends x =
+    by-last (λ s. 0 < length s → last s ≡ x → EndsIn x s) (λ h e. absurd (omega arith))
+    (λ front y ih h e. (front, ap (λ (z : ℕ). front ++ (z ∷ [])) (sym (last-snoc front y) ∙ e)))
+
+-- ---- one carriage return more
+
+-- the text fills a non-zero multiple of eight septets and ends in a carriage return
+pub record FilledByCr (t : List ℕ) : Type 0 where
+  pub some : 0 < length (septetsOf t)
+  pub eights : length (septetsOf t) % 8 ≡ 0
+  pub closed : EndsIn 0x000d t
+
+-- u is t with a single carriage return added
+pub record OneCrMore (t u : List ℕ) : Type 0 where
+  pub filled : FilledByCr t
+  pub added : u ≡ t ++ (0x000d ∷ [])
+
+pub filled-doubled : (t : List ℕ) → Codable t → FilledByCr t → Doubled (septetsOf t)
+filled-doubled t c f = (f .some, f .eights, ends-last 0x0d (septetsOf t) (septets-cr-iff t c .1 (f .closed)))
+
+pub doubled-filled : (t : List ℕ) → Codable t → Doubled (septetsOf t) → FilledByCr t
+doubled-filled t c d = record { some = d .0; eights = d .1; closed = septets-cr-iff t c .0 (last-ends 0x0d (septetsOf t) (d .0) (d .2)) }
+
+pub more-septets : (t u : List ℕ) → Codable t → OneCrMore t u → OneMore (septetsOf t) (septetsOf u)
+more-septets t u c m = (filled-doubled t c (m .filled), ap septetsOf (m .added) ∙ septets-closing t 1)
+
+pub septets-more : (t u : List ℕ) → Codable t → Codable u → OneMore (septetsOf t) (septetsOf u) → OneCrMore t u
+septets-more t u c d m =
+    record {
+      filled = doubled-filled t c (m .0);
+      added = septets-injective u (t ++ (0x000d ∷ [])) d (codable-snoc t 0x000d c cr-codable) (m .1 ∙ sym (septets-closing t 1));
+    }
