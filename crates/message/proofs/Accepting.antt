@@ -4,7 +4,7 @@
 --   write-accepts, write-accepted    the writer accepts exactly then, with these octets, this count and this coding octet
 --   Readable service coding count o room == no rule of the whole reader refuses the octets o (1, 2, 3, 4, 7)
 --   read-accepts, read-accepted      the reader accepts exactly then, with these units and this reading
-use mathlib.Core.Path.{_≡_, refl, ap, _∙_, sym, subst}
+use mathlib.Core.Path.{_≡_, refl, ap, _∙_, sym}
 use mathlib.Core.Bool.{Bool, true, false, not}
 use mathlib.Core.List.{List, [], _∷_, _++_}
 use Prim.Native.Nat.{ℕ, _≤_, _<_}
@@ -15,7 +15,7 @@ use Rattle.words.specs.declared.Service.{Service}
 use Rattle.words.specs.declared.Refusal.the-variants.{Compressed, NoText, Prefixed, WrongLength, TooLong, Unlisted, NoRoom}
 use Rattle.words.specs.Sizes.{isOldPage}
 use Rattle.words.specs.Lists.{laid}
-use Rattle.words.specs.Judging.{when, Verdict, refused, accepted, verdict, settle}
+use Rattle.words.specs.Judging.{when, Verdict, refused, accepted, verdict}
 use Rattle.words.proofs.Judging.{accepted-rule, accepted-parts, accepted-both, settle-told}
 use Rattle.coding.specs.declared.Reading.{Reading}
 use Rattle.coding.specs.declared.OctetRead.the-variants as octet-read
@@ -144,9 +144,10 @@ module _ (service : Service) (coding count : ℕ) (o : List ℕ) (r : Reading) w
       × (readLeaves service coding count o out ≡ laid (textOfMessage service r count o) out)
   unfolding readAnswers readLeaves
   read-accepts out w =
-      let same : readUnder service coding ≡ r = read-given service coding r (sym (w .reads)) in
-      (settle-given _ read.Refused _ (all-accept (length out) w) ∙ ap (λ (x : Reading). read.Done (length (textOfMessage service x count o)) x) same,
-       settle-given _ (λ q. out) _ (all-accept (length out) w) ∙ ap (λ (x : Reading). laid (textOfMessage service x count o) out) same)
+      let same : readUnder service coding ≡ r = read-given service coding r (sym (w .reads)) in (
+        settle-given _ read.Refused _ (all-accept (length out) w) ∙ ap (λ (x : Reading). read.Done (length (textOfMessage service x count o)) x) same,
+        settle-given _ (λ q. out) _ (all-accept (length out) w) ∙ ap (λ (x : Reading). laid (textOfMessage service x count o) out) same,
+      )
 
 pub read-accepted : (service : Service) (coding count : ℕ) (o : List ℕ) (room units : ℕ) (r : Reading) → readAnswers service coding count o room ≡ read.Done units r → Readable service coding count o room (readUnder service coding)
 unfolding readRules lengthRules octetReads

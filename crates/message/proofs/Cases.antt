@@ -4,13 +4,13 @@ use mathlib.Core.Bool.{Bool, true, false}
 use mathlib.Core.List.{List, [], _∷_, _++_}
 use Prim.Native.Nat.{ℕ, zero, suc}
 use lib.Dec.{T, eqb}
-use lib.ListN.{length, replicate, take, getD, drop}
+use lib.ListN.{length, replicate}
 use Rattle.words.specs.Bits.{bitOf, bitsFrom, bitsOf}
 use Rattle.words.specs.Lists.{firstPlace, laid, numbersFrom}
 use Rattle.words.specs.Closing.{beforeKept, withoutClosing}
 use Rattle.words.specs.Judging.{verdict}
 use Rattle.words.specs.declared.Service.{Service}
-use Rattle.words.specs.declared.Service.the-variants.{ShortMessage, Broadcast, Ussd, OldPage}
+use Rattle.words.specs.declared.Service.the-variants.{ShortMessage, Broadcast, Ussd}
 use Rattle.words.proofs.Tests.{both}
 use Rattle.coding.specs.declared.Reading.{Reading}
 use Rattle.coding.specs.declared.Alphabet.the-variants.{EightBit}

@@ -8,35 +8,33 @@
 --   page-same-iff        one broadcast page, 7-bit and UCS2: equal octets exactly when they are the same once all closing carriage returns are dropped
 --   write-reads          what was written is read: the reader does not refuse it for its coding octet or its length
 --   short-back, ussd-back, ussd-back-filled, ussd-ucs2-back, page-back   the text that it reads
-use mathlib.Core.Path.{_≡_, refl, ap, _∙_, sym, subst}
+use mathlib.Core.Path.{_≡_, refl, ap, _∙_, sym}
 use mathlib.Core.Bool.{Bool, true, false, cond}
 use mathlib.Core.List.{List, [], _∷_, _++_}
 use mathlib.Core.Logic.{_↔_, _⊎_, inl, inr}
-use Prim.Native.Nat.{ℕ, _≤_, _<_}
+use Prim.Native.Nat.{ℕ, _≤_}
 use lib.Dec.{ltb}
 use lib.ListN.{length}
 use borrow.Author.Tests.{ltb-false}
 use Rattle.words.specs.declared.Service.{Service}
-use Rattle.words.specs.declared.Service.the-variants.{ShortMessage, Broadcast, Ussd, OldPage}
+use Rattle.words.specs.declared.Service.the-variants.{ShortMessage, Broadcast, Ussd}
 use Rattle.words.specs.Sizes.{mostSeptets, mostUnits}
 use Rattle.words.specs.Closing.{withoutClosing}
 use Rattle.coding.specs.declared.Reading.{Reading}
 use Rattle.coding.specs.declared.OctetRead.the-variants as octet-read
 use Rattle.coding.specs.OctetRead.{octetReads}
-use Rattle.coding.specs.OctetWritten.{smallest, octetWrites}
+use Rattle.coding.specs.OctetWritten.{smallest}
 use Rattle.coding.specs.Holding.{isUcs2}
 use Rattle.coding.proofs.Theorems.{settled, write-read, write-complete}
 use Rattle.alphabet.specs.Writing.{septetsOf, firstUnlisted}
 use Rattle.alphabet.specs.Reading.{textOf}
 use Rattle.alphabet.proofs.Theorems.{Codable, septets-below, septets-injective, septets-closing, text-septets}
-use Rattle.stream.specs.Ucs2.{unitPage}
 use Rattle.stream.proofs.Theorems.{OneMore, pack-injective, units-injective, ussd-iff, page-iff, unit-page-iff}
-use Rattle.packing.specs.SeptetCalls.{octetsOf, countOf, septetsFit}
-use Rattle.packing.specs.SeptetCalls.{septetsOf as unpackedOf}
-use Rattle.packing.specs.UnitCalls.{ucs2OctetsOf, unitCountOf, unitsFit, unitsOf}
+use Rattle.packing.specs.SeptetCalls.{octetsOf, countOf}
+use Rattle.packing.specs.UnitCalls.{ucs2OctetsOf, unitCountOf}
 use Rattle.packing.proofs.RoundTrips.{pack-fits, unpack-pack-short, unpack-pack-page, unpack-pack-ussd, unpack-pack-ussd-doubled, units-fit, units-round-trip, unit-page-round-trip}
 use Rattle.message.specs.MessageRead.{fitsReading, textOfMessage}
-use Rattle.message.specs.MessageWritten.{notCodable, overSize, messageOctets, messageCount}
+use Rattle.message.specs.MessageWritten.{messageOctets, messageCount}
 use Rattle.message.proofs.Accepting.{Writable}
 use Rattle.message.proofs.Texts.{codable-told, codable-snoc, cr-codable, codable-closed, closing-septets, FilledByCr, OneCrMore, more-septets, septets-more, filled-doubled, doubled-filled}
 
@@ -89,9 +87,10 @@ module _ (r : Reading) (t u : List ℕ) (room : ℕ) where
 
   pub ussd-same-iff : isUcs2 (r .alphabet) ≡ false → Writable Ussd r t room → Writable Ussd r u room
       → (messageOctets Ussd r t ≡ messageOctets Ussd r u) ↔ ((t ≡ u) ⊎ (OneCrMore t u ⊎ OneCrMore u t))
-  ussd-same-iff b w v =
-      (λ e. to (ussd-iff (septetsOf t) (septetsOf u) (septets-below t) (septets-below u) .0 (sym (septets-octets Ussd r t b) ∙ e ∙ septets-octets Ussd r u b)),
-       λ x. septets-octets Ussd r t b ∙ ussd-iff (septetsOf t) (septetsOf u) (septets-below t) (septets-below u) .1 (from x) ∙ sym (septets-octets Ussd r u b))
+  ussd-same-iff b w v = (
+    λ e. to (ussd-iff (septetsOf t) (septetsOf u) (septets-below t) (septets-below u) .0 (sym (septets-octets Ussd r t b) ∙ e ∙ septets-octets Ussd r u b)),
+    λ x. septets-octets Ussd r t b ∙ ussd-iff (septetsOf t) (septetsOf u) (septets-below t) (septets-below u) .1 (from x) ∙ sym (septets-octets Ussd r u b),
+  )
     where
       c : Codable t
       c = septets-codable Ussd r t room b w
@@ -122,10 +121,11 @@ module _ (r : Reading) (t u : List ℕ) (room : ℕ) where
       septets b =
           let c = septets-codable Broadcast r t room b w in
           let d = septets-codable Broadcast r u room b v in
-          let iff = page-iff (septetsOf t) (septetsOf u) (septets-sized Broadcast r t room b w) (septets-sized Broadcast r u room b v) (septets-below t) (septets-below u) in
-          (λ e. septets-injective (withoutClosing 0x000d t) (withoutClosing 0x000d u) (codable-closed t c) (codable-closed u d)
-          (sym (closing-septets t c) ∙ iff .0 (sym (septets-octets Broadcast r t b) ∙ e ∙ septets-octets Broadcast r u b) ∙ closing-septets u d),
-           λ e. septets-octets Broadcast r t b ∙ iff .1 (closing-septets t c ∙ ap septetsOf e ∙ sym (closing-septets u d)) ∙ sym (septets-octets Broadcast r u b))
+          let iff = page-iff (septetsOf t) (septetsOf u) (septets-sized Broadcast r t room b w) (septets-sized Broadcast r u room b v) (septets-below t) (septets-below u) in (
+            λ e. septets-injective (withoutClosing 0x000d t) (withoutClosing 0x000d u) (codable-closed t c) (codable-closed u d)
+                (sym (closing-septets t c) ∙ iff .0 (sym (septets-octets Broadcast r t b) ∙ e ∙ septets-octets Broadcast r u b) ∙ closing-septets u d),
+            λ e. septets-octets Broadcast r t b ∙ iff .1 (closing-septets t c ∙ ap septetsOf e ∙ sym (closing-septets u d)) ∙ sym (septets-octets Broadcast r u b),
+          )
 
       units : isUcs2 (r .alphabet) ≡ true → (messageOctets Broadcast r t ≡ messageOctets Broadcast r u) ↔ (withoutClosing 0x000d t ≡ withoutClosing 0x000d u)
       units b =

@@ -5,8 +5,8 @@
 --   text-to-septets-refuses, septets-to-text-refuses, pack-refuses, unpack-refuses, units-to-octets-refuses, octets-to-units-refuses
 --   read-message-refuses, write-message-refuses
 -- septets-to-text-refuses is of both septets_to_text and old_page_to_text: it holds whatever text the septets read as.
-use mathlib.Core.Path.{_≡_, refl, ap, sym, _∙_}
-use mathlib.Core.List.{List, _++_}
+use mathlib.Core.Path.{_≡_, refl, ap, sym}
+use mathlib.Core.List.{List}
 use Prim.Native.Nat.{ℕ}
 use lib.ListN.{length}
 use Rattle.words.specs.declared.Service.{Service}
@@ -25,13 +25,12 @@ use Rattle.alphabet.specs.Reading.{textRules, textAnswers, textLeaves}
 use Rattle.packing.specs.declared.Packed.{Packed}
 use Rattle.packing.specs.declared.Packed.the-variants as packed
 use Rattle.packing.specs.Answers.{packedNumber, packedPosition, packedWritten, packedCount}
-use Rattle.packing.specs.SeptetCalls.{octetsOf, countOf, packRules, packAnswers, packLeaves, unpackRules, unpackAnswers, unpackLeaves}
-use Rattle.packing.specs.SeptetCalls.{septetsOf as unpackedOf}
+use Rattle.packing.specs.SeptetCalls.{octetsOf, countOf, packRules, packAnswers, packLeaves, unpackRules, unpackAnswers, unpackLeaves, septetsOf as unpackedOf}
 use Rattle.packing.specs.UnitCalls.{ucs2OctetsOf, unitsOf, toOctetsRules, toOctetsAnswers, toOctetsLeaves, toUnitsRules, toUnitsAnswers, toUnitsLeaves}
 use Rattle.message.specs.declared.MessageRead.the-variants as read
 use Rattle.message.specs.declared.MessageWritten.the-variants as written
-use Rattle.message.specs.MessageRead.{textOfMessage, readAnswers, readLeaves}
-use Rattle.message.specs.MessageWritten.{messageOctets, writeAnswers, writeLeaves}
+use Rattle.message.specs.MessageRead.{readAnswers, readLeaves}
+use Rattle.message.specs.MessageWritten.{writeAnswers, writeLeaves}
 use Rattle.message.specs.Reports.{readNumber, readPosition, readWritten, readReading, writeNumber, writePosition, writeWritten, writeCount, writeCoding}
 use Rattle.message.proofs.Accepting.{read-verdict, write-verdict}
 
@@ -95,10 +94,14 @@ pub pack-refuses : (service : Service) (s out : List ℕ) (q : Refusal) → pack
     × (packedCount (packAnswers service s (length out)) ≡ 0)
     × (packLeaves service s out ≡ out)
 unfolding packAnswers packLeaves
-pack-refuses service s out q e =
-    (ap packedNumber e, ap packedPosition e, ap packedWritten e, ap packedCount e,
-     kept (verdict (packRules service s (length out))) q out (laid (octetsOf service s) out)
-     (settle-told packedTold packed.Refused (packed.Done (length (octetsOf service s)) (countOf service s)) (λ r. refl) refl (verdict (packRules service s (length out))) (packed.Refused q) (sym e)))
+pack-refuses service s out q e = (
+  ap packedNumber e,
+  ap packedPosition e,
+  ap packedWritten e,
+  ap packedCount e,
+  kept (verdict (packRules service s (length out))) q out (laid (octetsOf service s) out)
+      (settle-told packedTold packed.Refused (packed.Done (length (octetsOf service s)) (countOf service s)) (λ r. refl) refl (verdict (packRules service s (length out))) (packed.Refused q) (sym e)),
+)
 
 pub read-message-refuses : (service : Service) (coding count : ℕ) (o out : List ℕ) (q : Refusal) → readAnswers service coding count o (length out) ≡ read.Refused q
     → (readNumber (readAnswers service coding count o (length out)) ≡ numberOf q)
@@ -107,9 +110,13 @@ pub read-message-refuses : (service : Service) (coding count : ℕ) (o out : Lis
     × (readReading (readAnswers service coding count o (length out)) ≡ unmentioned)
     × (readLeaves service coding count o out ≡ out)
 unfolding readLeaves
-read-message-refuses service coding count o out q e =
-    (ap readNumber e, ap readPosition e, ap readWritten e, ap readReading e,
-     kept _ q out _ (read-verdict service coding count o (length out) (read.Refused q) (sym e)))
+read-message-refuses service coding count o out q e = (
+  ap readNumber e,
+  ap readPosition e,
+  ap readWritten e,
+  ap readReading e,
+  kept _ q out _ (read-verdict service coding count o (length out) (read.Refused q) (sym e)),
+)
 
 pub write-message-refuses : (service : Service) (r : Reading) (t out : List ℕ) (q : Refusal) → writeAnswers service r t (length out) ≡ written.Refused q
     → (writeNumber (writeAnswers service r t (length out)) ≡ numberOf q)
@@ -119,6 +126,11 @@ pub write-message-refuses : (service : Service) (r : Reading) (t out : List ℕ)
     × (writeCoding (writeAnswers service r t (length out)) ≡ 0)
     × (writeLeaves service r t out ≡ out)
 unfolding writeLeaves
-write-message-refuses service r t out q e =
-    (ap writeNumber e, ap writePosition e, ap writeWritten e, ap writeCount e, ap writeCoding e,
-     kept _ q out _ (write-verdict service r t (length out) (written.Refused q) (sym e)))
+write-message-refuses service r t out q e = (
+  ap writeNumber e,
+  ap writePosition e,
+  ap writeWritten e,
+  ap writeCount e,
+  ap writeCoding e,
+  kept _ q out _ (write-verdict service r t (length out) (written.Refused q) (sym e)),
+)

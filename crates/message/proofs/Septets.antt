@@ -2,20 +2,19 @@
 -- packed from it is the definition's.
 -- Assumes nothing.
 use mathlib.Core.Path.{_≡_, refl, ap, ap₂, _∙_, sym, subst}
-use mathlib.Core.Bool.{Bool, true, false, not, _&&_}
-use mathlib.Core.List.{List, [], _∷_, _++_}
-use Prim.Native.Nat.{ℕ, _+_, _*_, _/_, _≤_, _<_}
+use mathlib.Core.Bool.{Bool, true, false, _&&_}
+use mathlib.Core.List.{List}
+use Prim.Native.Nat.{ℕ, _≤_, _<_}
 use native.Mathlib.Decide.{decLe}
 use native.Mathlib.Omega.{arith}
-use lib.Dec.{T, ltb, leb, eqb, leb→le, lit≤}
+use lib.Dec.{T, leb, eqb, leb→le, lit≤}
 use lib.ListN.{length, getD, take}
 use lib.Seq.{take-append-le, take-length}
-use borrow.Author.Tests.{lt-ltb, le-ltb, le-leb, lt-leb}
+use borrow.Author.Tests.{lt-ltb, le-ltb, lt-leb}
 use Rattle.words.specs.declared.Service.{Service}
 use Rattle.words.specs.declared.Service.the-variants.{ShortMessage, Broadcast, Ussd, OldPage}
 use Rattle.words.specs.declared.Refusal.{Refusal}
-use Rattle.words.specs.declared.Refusal.the-variants.{WrongLength, TooLong, Unlisted, NoRoom}
-use Rattle.words.specs.declared.Filled.{Filled}
+use Rattle.words.specs.declared.Refusal.the-variants.{WrongLength, Unlisted, NoRoom}
 use Rattle.words.specs.declared.Filled.the-variants.{Done, Refused}
 use Rattle.words.specs.Sizes.{mostSeptets, isOldPage}
 use Rattle.words.specs.Lists.{firstPlace, laid}
@@ -26,15 +25,14 @@ use Rattle.words.proofs.Closing.{closing-front, closing-length}
 use Rattle.words.proofs.Laid.{laid-length}
 use Rattle.words.proofs.Places.{place-none}
 use Rattle.alphabet.specs.Writing.{septetsOf as septetsOf′, firstUnlisted, septetsRules, septetsAnswers, septetsLeaves}
-use Rattle.alphabet.specs.Reading.{firstWide, textRules, textAnswers, textLeaves}
+use Rattle.alphabet.specs.Reading.{textRules, textAnswers, textLeaves}
 use Rattle.alphabet.proofs.Theorems.{septets-below}
 use Rattle.stream.specs.Stream.{octetsFor, unpacked}
-use Rattle.stream.specs.UssdPacking.{ussdSeptets}
 use Rattle.stream.specs.Pages.{pageSeptets}
 use Rattle.stream.specs.OldPage.{oldPageSeptets}
 use Rattle.stream.proofs.Stream.{unpacked-length, unpacked-take, unpacked-below}
 use Rattle.stream.proofs.Ussd.{kept-octets, kept-septets}
-use Rattle.packing.specs.SeptetCalls.{septetsFit, septetsOf, octetsOf, countOf, packRules, packAnswers, packLeaves, unpackRules, unpackAnswers, unpackLeaves}
+use Rattle.packing.specs.SeptetCalls.{septetsFit, septetsOf, packRules, packAnswers, packLeaves, unpackRules, unpackAnswers, unpackLeaves}
 use Rattle.packing.proofs.Calls.{fit-ussd}
 use Rattle.packing.specs.declared.Packed.the-variants as packed
 use Rattle.message.specs.declared.MessageWritten.the-variants as written
@@ -181,8 +179,8 @@ module _ (units array : List ℕ) (n : length array ≡ 182) where
       → (length units ≤ firstUnlisted units → length (septetsOf′ units) ≤ length array → A) → A
   by-text f g h =
       elim (decLe (length units) (firstUnlisted units)) [
-        no l ↦ f (omega arith)
-      | yes l ↦ elim (decLe (length (septetsOf′ units)) (length array)) [ no m ↦ g l (omega arith) | yes m ↦ h l m ]
+        | no l ↦ f (omega arith)
+        | yes l ↦ elim (decLe (length (septetsOf′ units)) (length array)) [ no m ↦ g l (omega arith) | yes m ↦ h l m ]
       ]
 
   done-or-refused : (k : ℕ) (q : Refusal) → Done k ≡ Refused q → ⊥

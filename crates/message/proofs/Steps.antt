@@ -1,15 +1,14 @@
 -- How the whole reader and the whole writer come to their verdict, one call of another crate after the other.
 -- Assumes nothing.
-use mathlib.Core.Path.{_≡_, refl, ap, ap₂, _∙_, sym, subst}
-use mathlib.Core.Bool.{Bool, true, false, cond, not}
-use mathlib.Core.List.{List, [], _∷_, _++_}
-use Prim.Native.Nat.{ℕ, _≤_, _<_}
+use mathlib.Core.Path.{_≡_, refl, ap, ap₂, _∙_, sym}
+use mathlib.Core.Bool.{Bool, true, false, cond}
+use mathlib.Core.List.{List, _++_}
+use Prim.Native.Nat.{ℕ}
 use native.Mathlib.Omega.{arith}
 use lib.ListN.{length}
 use Rattle.words.specs.declared.Service.{Service}
 use Rattle.words.specs.declared.Service.the-variants.{ShortMessage, Broadcast, Ussd, OldPage}
 use Rattle.words.specs.declared.Refusal.{Refusal}
-use Rattle.words.specs.declared.Filled.{Filled}
 use Rattle.words.specs.declared.Filled.the-variants as filled
 use Rattle.words.specs.Sizes.{isOldPage}
 use Rattle.words.specs.Lists.{laid}
@@ -28,9 +27,7 @@ use Rattle.coding.specs.Holding.{isUcs2, textRules, holdsText}
 use Rattle.alphabet.specs.Writing.{septetsOf}
 use Rattle.packing.specs.SeptetCalls.{octetsOf, countOf}
 use Rattle.packing.specs.UnitCalls.{unitsOf, ucs2OctetsOf, unitCountOf, toOctetsRules, toOctetsAnswers, toOctetsLeaves, toUnitsAnswers, toUnitsLeaves, toUnitsRules}
-use Rattle.message.specs.declared.MessageRead.{MessageRead}
 use Rattle.message.specs.declared.MessageRead.the-variants as read
-use Rattle.message.specs.declared.MessageWritten.{MessageWritten}
 use Rattle.message.specs.declared.MessageWritten.the-variants as written
 use Rattle.message.specs.MessageRead.{textOfMessage, lengthRules, readRules, readAnswers, readLeaves}
 use Rattle.message.specs.MessageWritten.{messageOctets, messageCount, sizeRules, writeRules, writeAnswers, writeLeaves}

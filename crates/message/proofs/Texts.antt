@@ -1,17 +1,17 @@
 -- Texts and their septets: which texts are codable, and how a text and its septets end alike.
 -- Assumes nothing.
 use mathlib.Core.Path.{_≡_, refl, ap, _∙_, sym, subst}
-use mathlib.Core.Bool.{Bool, true, false}
+use mathlib.Core.Bool.{false}
 use mathlib.Core.List.{List, [], _∷_, _++_}
-use Prim.Native.Nat.{ℕ, zero, suc, _+_, _-_, _%_, _≤_, _<_}
+use Prim.Native.Nat.{ℕ, suc, _+_, _-_, _%_, _≤_, _<_}
 use native.Mathlib.Decide.{ℕ-discrete}
 use native.Mathlib.Omega.{arith}
-use lib.ListN.{length, getD, replicate, length-append}
+use lib.ListN.{length, getD, length-append}
 use lib.Seq.{getD-append-add}
 use Rattle.words.specs.Lists.{firstPlace}
 use Rattle.words.specs.Closing.{withoutClosing}
 use Rattle.words.proofs.Closing.{closing-one, closing-other, closing-filled}
-use Rattle.words.proofs.Ends.{EndsIn, by-last, not-ending, last-unique}
+use Rattle.words.proofs.Ends.{EndsIn, by-last, last-unique}
 use Rattle.words.proofs.Places.{place-most}
 use Rattle.alphabet.specs.Writing.{listedAs, isUnlisted, firstUnlisted, septetsOf}
 use Rattle.alphabet.proofs.Theorems.{Codable, codable-first, codable-rest, cr-listed, septets-injective, septets-closing, septets-cr-iff}

@@ -5,12 +5,11 @@
 --   readRules service coding count o room == the refusals, where the lent buffer has that much room
 --   readAnswers, readLeaves            == what read_message answers, and what it leaves in the lent buffer
 use Prim.Native.Nat.{ℕ}
-use mathlib.Core.Bool.{Bool, true, false, not, cond}
+use mathlib.Core.Bool.{Bool, not, cond}
 use mathlib.Core.List.{List, [], _∷_, _++_}
 use lib.Dec.{ltb}
 use lib.ListN.{length}
 use Rattle.words.specs.declared.Service.{Service}
-use Rattle.words.specs.declared.Service.the-variants.{ShortMessage, Broadcast, Ussd, OldPage}
 use Rattle.words.specs.declared.Refusal.the-variants.{WrongLength, NoRoom}
 use Rattle.words.specs.Sizes.{isOldPage}
 use Rattle.words.specs.Lists.{laid}

@@ -7,12 +7,11 @@
 --   writeRules service r units room == the refusals, where the lent buffer has that much room
 --   writeAnswers, writeLeaves == what write_message answers, and what it leaves in the lent buffer
 use Prim.Native.Nat.{ℕ}
-use mathlib.Core.Bool.{Bool, true, false, cond}
+use mathlib.Core.Bool.{Bool, false, cond}
 use mathlib.Core.List.{List, [], _∷_, _++_}
 use lib.Dec.{ltb}
 use lib.ListN.{length}
 use Rattle.words.specs.declared.Service.{Service}
-use Rattle.words.specs.declared.Service.the-variants.{ShortMessage, Broadcast, Ussd, OldPage}
 use Rattle.words.specs.declared.Refusal.the-variants.{Unlisted, TooLong, NoRoom}
 use Rattle.words.specs.Sizes.{mostSeptets, mostUnits}
 use Rattle.words.specs.Lists.{laid}

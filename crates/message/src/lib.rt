@@ -70,7 +70,10 @@ fn read_held(
 {
     match reading.holds() {
         Held::Septets => shown(reading, read_septets(service, count, octets, out)),
-        Held::Units => shown(reading, packing::octets_to_units(service, octets, count, out)),
+        Held::Units => shown(
+            reading,
+            packing::octets_to_units(service, octets, count, out),
+        ),
         Held::Refused(refusal) => MessageRead::Refused(refusal),
     }
 }
@@ -143,7 +146,11 @@ fn write_held(
 {
     match reading.holds() {
         Held::Septets => write_septets(service, coding, units, out),
-        Held::Units => counted(service, coding, packing::units_to_octets(service, units, out)),
+        Held::Units => counted(
+            service,
+            coding,
+            packing::units_to_octets(service, units, out),
+        ),
         Held::Refused(refusal) => MessageWritten::Refused(refusal),
     }
 }

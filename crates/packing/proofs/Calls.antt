@@ -14,7 +14,7 @@ use Rattle.words.specs.declared.Service.the-variants.{ShortMessage, Broadcast, 
 use Rattle.words.specs.declared.Filled.{Filled}
 use Rattle.words.specs.declared.Filled.the-variants.{Done, Refused}
 use Rattle.words.specs.declared.Refusal.the-variants.{NoRoom}
-use Rattle.words.specs.Sizes.{mostSeptets, mostUnits}
+use Rattle.words.specs.Sizes.{mostSeptets, mostUnits, isOldPage}
 use Rattle.words.specs.Lists.{firstPlace}
 use Rattle.words.specs.Judging.{when, verdict, settle}
 use Rattle.words.proofs.Below.{Below}
@@ -22,7 +22,7 @@ use Rattle.words.proofs.Places.{place-before}
 use Rattle.words.proofs.Tests.{and-left, and-right}
 use Rattle.packing.specs.declared.Packed.the-variants as packed
 use Rattle.stream.specs.Stream.{octetsFor}
-use Rattle.packing.specs.SeptetCalls.{isOldPage, octetsOf, countOf, packRules, packAnswers, packLeaves, septetsFit, septetsOf, unpackRules, unpackAnswers, unpackLeaves}
+use Rattle.packing.specs.SeptetCalls.{octetsOf, countOf, packRules, packAnswers, packLeaves, septetsFit, septetsOf, unpackRules, unpackAnswers, unpackLeaves}
 use Rattle.packing.specs.UnitCalls.{ucs2OctetsOf, toOctetsRules, toOctetsAnswers, toOctetsLeaves, unitsFit, unitsOf, toUnitsRules, toUnitsAnswers, toUnitsLeaves}
 use Rattle.packing.specs.Inner.{countedAs, givenAnswers, givenLeaves}
 use Rattle.packing.proofs.Given.{Gives}

@@ -16,7 +16,7 @@ use borrow.Author.Tests.{le-leb, eq-eqb}
 use lib.ListN.{length}
 use Rattle.words.specs.declared.Service.{Service}
 use Rattle.words.specs.declared.Service.the-variants.{ShortMessage, Broadcast, Ussd, OldPage}
-use Rattle.words.specs.Sizes.{mostSeptets, mostUnits, mostOctets}
+use Rattle.words.specs.Sizes.{mostSeptets, mostUnits, mostOctets, isOldPage}
 use Rattle.words.specs.Closing.{withoutClosing}
 use Rattle.words.proofs.Below.{Below}
 use Rattle.stream.specs.Stream.{octetsFor}
@@ -26,7 +26,7 @@ use Rattle.stream.proofs.Ussd.{ussd-octets-most}
 use Rattle.stream.proofs.Pages.{unit-page-length}
 use Rattle.stream.proofs.UnitOctets.{unit-octets-length}
 use Rattle.stream.proofs.Theorems.{Doubled, unpack-pack, page-octets-length, page-back, ussd-back, ussd-back-doubled, units-back, unit-page-back}
-use Rattle.packing.specs.SeptetCalls.{isOldPage, octetsOf, countOf, septetsFit, septetsOf}
+use Rattle.packing.specs.SeptetCalls.{octetsOf, countOf, septetsFit, septetsOf}
 use Rattle.packing.specs.UnitCalls.{ucs2OctetsOf, unitCountOf, unitsFit, unitsOf}
 
 pub pack-fits : (service : Service) (s : List ℕ) → isOldPage service ≡ false → length s ≤ mostSeptets service → septetsFit service (length (octetsOf service s)) (countOf service s) ≡ true

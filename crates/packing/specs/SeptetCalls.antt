@@ -1,6 +1,5 @@
 -- Document 01, "Packing" and "Refusal numbers and their order": packing alone (8 of an old page, 9, 5, 7) and unpacking alone (4, 7).
 -- Own rule: none. Cited by packing::pack and packing::unpack. Assumes nothing.
---   isOldPage service              == whether the service is the old page, which is read only
 --   octetsOf service s             == the octets of the septets s
 --   countOf service s              == the length count that travels with them
 --   packRules service s room       == what refuses to pack s into a buffer of that room
@@ -9,7 +8,7 @@
 --   septetsOf service count o      == the septets that the octets o hold
 --   unpackRules, unpackAnswers, unpackLeaves == the same of unpack
 use Prim.Native.Nat.{ℕ}
-use mathlib.Core.Bool.{Bool, true, false, not, _&&_}
+use mathlib.Core.Bool.{Bool, not, _&&_}
 use mathlib.Core.List.{List, [], _∷_}
 use lib.ListN.{length}
 use lib.Dec.{ltb, leb, eqb}
@@ -18,7 +17,7 @@ use Rattle.words.specs.declared.Service.the-variants.{ShortMessage, Broadcast, 
 use Rattle.words.specs.declared.Filled.{Filled}
 use Rattle.words.specs.declared.Filled.the-variants as filled
 use Rattle.words.specs.declared.Refusal.the-variants.{Unwritable, NoSeptet, TooLong, NoRoom, WrongLength}
-use Rattle.words.specs.Sizes.{mostSeptets, mostOctets}
+use Rattle.words.specs.Sizes.{mostSeptets, mostOctets, isOldPage}
 use Rattle.words.specs.Lists.{firstPlace, laid}
 use Rattle.words.specs.Judging.{Rule, when, verdict, settle}
 use Rattle.packing.specs.declared.Packed.{Packed}
@@ -27,12 +26,6 @@ use Rattle.stream.specs.Stream.{octetsFor, packed, unpacked}
 use Rattle.stream.specs.UssdPacking.{ussdOctets, ussdSeptets}
 use Rattle.stream.specs.Pages.{pageOctets, pageSeptets}
 use Rattle.stream.specs.OldPage.{oldPageSeptets}
-
-abbrev pub isOldPage : Service → Bool
-isOldPage ShortMessage = false
-isOldPage Broadcast = false
-isOldPage Ussd = false
-isOldPage OldPage = true
 
 abbrev pub octetsOf : Service → List ℕ → List ℕ
 octetsOf ShortMessage s = packed s

@@ -17,12 +17,11 @@ use Rattle.words.specs.declared.Service.the-variants.{ShortMessage, Broadcast, 
 use Rattle.words.specs.declared.Filled.{Filled}
 use Rattle.words.specs.declared.Filled.the-variants.{Done, Refused}
 use Rattle.words.specs.declared.Refusal.the-variants.{Unwritable, TooLong, NoRoom, WrongLength}
-use Rattle.words.specs.Sizes.{mostUnits, mostOctets}
+use Rattle.words.specs.Sizes.{mostUnits, mostOctets, isOldPage}
 use Rattle.words.specs.Lists.{laid}
 use Rattle.words.specs.Closing.{withoutClosing}
 use Rattle.words.specs.Judging.{Rule, when, verdict, settle}
 use Rattle.stream.specs.Ucs2.{unitOctets, octetUnits, unitPage}
-use Rattle.packing.specs.SeptetCalls.{isOldPage}
 
 abbrev pub ucs2OctetsOf : Service → List ℕ → List ℕ
 ucs2OctetsOf ShortMessage us = unitOctets us

@@ -1,7 +1,8 @@
 // Septets into octets and back, under each service, and UCS2 units into octets and back.
 ghost use mathlib.Core.Path.{_≡_};
 ghost use lib.ListN.{length};
-ghost use Rattle.packing.specs.SeptetCalls.{isOldPage, packAnswers, packLeaves, unpackAnswers, unpackLeaves};
+ghost use Rattle.packing.specs.SeptetCalls.{packAnswers, packLeaves, unpackAnswers, unpackLeaves};
+ghost use Rattle.words.specs.Sizes.{isOldPage};
 ghost use Rattle.packing.specs.Inner.{countedAs};
 ghost use Rattle.packing.specs.UnitCalls.{toOctetsAnswers, toOctetsLeaves, toUnitsAnswers, toUnitsLeaves};
 use words::Filled;

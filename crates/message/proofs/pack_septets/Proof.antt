@@ -1,41 +1,28 @@
+-- `pack_septets` meets its contract: the answer of `pack` is taken apart and made anew with the coding octet. Assumes nothing.
 use Rattle.message.specs.Inner.{packedAs}
-use denote.Ref.{now}
-use lib.ListN.{length, replicate}
-use Prim.Native.Nat.{ℕ}
-use mathlib.Core.List.{List}
-use mathlib.Core.Path.{_≡_, refl, ap, sym, _∙_}
+use mathlib.Core.Path.{ap, sym, _∙_}
 use borrow.Author.Needs.{needs}
 use Rattle.message.proofs.pack_septets.Statement.{statement}
 use Rattle.message.proofs.pack_septets.Tie as tie
-use Rattle.message.proofs.pack_septets.Reads as reads
-use Rattle.message.proofs.pack_septets.Lts as lts
-use Rattle.packing.proofs.pack.Reads as pack-reads
 
--- src/lib.rt:213:11
 pack-requires : tie.Need-pack-requires
 pack-requires c κs = search needs
 
--- src/lib.rt:214:24
 enum-known-octets : tie.Need-enum-known-octets
 enum-known-octets c = search needs
 
--- src/lib.rt:219:25
 enum-known-refusal : tie.Need-enum-known-refusal
 enum-known-refusal c = search needs
 
--- src/lib.rt:209:1
 same-length : tie.Need-same-length
 same-length c = search needs
 
--- src/lib.rt:209:1
 returns : tie.Need-returns
 returns c = (ap (packedAs (c .before .before .before .before .before .before .before .before .before .args .coding)) (sym (c .before .octets .given .1) ∙ c .before .before .before .before .before .pack .ensures .0), c .before .before .before .before .before .pack .ensures .1)
 
--- src/lib.rt:209:1
 same-length-2 : tie.Need-same-length-2
 same-length-2 c = search needs
 
--- src/lib.rt:209:1
 returns-2 : tie.Need-returns-2
 returns-2 c = (ap (packedAs (c .before .before .before .before .before .before .before .before .before .args .coding)) (sym (c .before .refusal .given .1) ∙ c .before .before .before .before .before .pack .ensures .0), c .before .before .before .before .before .pack .ensures .1)
 

@@ -1,70 +1,48 @@
+-- `read_held` meets its contract: what the reading holds decides the rules that are left. Assumes nothing.
 use Rattle.message.proofs.Steps.{held-septets, held-units, held-refused}
 use Rattle.message.specs.Inner.{shownAs}
-use Rattle.words.specs.declared.Service.{Service}
 use denote.Ref.{now}
-use lib.ListN.{length, replicate}
-use Prim.Native.Nat.{ℕ}
-use mathlib.Core.List.{List}
-use mathlib.Core.Path.{_≡_, refl, ap, sym, _∙_}
+use mathlib.Core.Path.{ap, sym, _∙_}
 use borrow.Author.Needs.{needs}
 use Rattle.message.proofs.read_held.Statement.{statement}
 use Rattle.message.proofs.read_held.Tie as tie
-use Rattle.message.proofs.read_held.Reads as reads
-use Rattle.message.proofs.read_held.Lts as lts
-use Rattle.coding.proofs.Reading.holds.Reads as holds-reads
-use Rattle.message.proofs.read_septets.Reads as read-septets-reads
-use Rattle.message.proofs.shown.Reads as shown-reads
-use Rattle.packing.proofs.octets_to_units.Reads as octets-to-units-reads
 
--- src/lib.rt:71:11
 holds-requires : tie.Need-holds-requires
 holds-requires c κs = search needs
 
--- src/lib.rt:72:78
 enum-told : tie.Need-enum-told
 enum-told c = search needs
 
--- src/lib.rt:72:41
 read-septets-requires : tie.Need-read-septets-requires
 read-septets-requires c κs = search needs
 
--- src/lib.rt:72:26
 shown-requires : tie.Need-shown-requires
 shown-requires c κs = search needs
 
--- src/lib.rt:73:88
 enum-told-2 : tie.Need-enum-told-2
 enum-told-2 c = search needs
 
--- src/lib.rt:73:39
 octets-to-units-requires : tie.Need-octets-to-units-requires
 octets-to-units-requires c κs = search needs
 
--- src/lib.rt:73:24
 shown-requires-2 : tie.Need-shown-requires-2
 shown-requires-2 c κs = search needs
 
--- src/lib.rt:74:23
 enum-known-refusal : tie.Need-enum-known-refusal
 enum-known-refusal c = search needs
 
--- src/lib.rt:61:1
 same-length : tie.Need-same-length
 same-length c = search needs
 
--- src/lib.rt:61:1
 returns : tie.Need-returns
 returns c = let a = c .before .before .before .before .before .before .before .before .before .before .args in let s = held-septets (a .service) (a .reading) (a .count) (now (a .octets)) (now (a .out)) (sym (c .before .before .before .before .before .enum-told .given .1) ∙ c .before .before .before .before .before .before .before .holds .ensures) in (c .shown .ensures ∙ ap (shownAs (a .reading)) (c .before .before .before .read-septets .ensures .0) ∙ s .0, c .before .before .before .read-septets .ensures .1 ∙ s .1)
 
--- src/lib.rt:61:1
 same-length-2 : tie.Need-same-length-2
 same-length-2 c = search needs
 
--- src/lib.rt:61:1
 returns-2 : tie.Need-returns-2
 returns-2 c = let a = c .before .before .before .before .before .before .before .before .before .before .args in let s = held-units (a .service) (a .reading) (a .count) (now (a .octets)) (now (a .out)) (sym (c .before .before .before .before .before .enum-told2 .given .1) ∙ c .before .before .before .before .before .before .before .holds .ensures) in (c .shown2 .ensures ∙ ap (shownAs (a .reading)) (c .before .before .before .octets-to-units .ensures .0) ∙ s .0, c .before .before .before .octets-to-units .ensures .1 ∙ s .1)
 
--- src/lib.rt:61:1
 returns-3 : tie.Need-returns-3
 returns-3 c = let a = c .before .before .before .before .before .before .args in held-refused (a .service) (a .reading) (a .count) (now (a .octets)) (now (a .out)) _ (sym (c .before .refusal .given .1) ∙ c .before .before .before .holds .ensures)
 

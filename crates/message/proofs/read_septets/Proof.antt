@@ -1,56 +1,42 @@
+-- `read_septets` meets its contract: the septets fit the array, and their run at its front is what the octets hold. Assumes nothing.
 use Rattle.message.proofs.Septets.{unpacked-fits, unpacked-run, unpacked-room, unpacked-refused, shown-reads}
 use lib.Seq.{length-take-le}
-use Rattle.words.specs.declared.Service.{Service}
 use denote.Ref.{now}
-use lib.ListN.{length, replicate}
+use lib.ListN.{replicate}
 use Prim.Native.Nat.{ℕ}
 use mathlib.Core.List.{List}
-use mathlib.Core.Path.{_≡_, refl, ap, sym, _∙_}
+use mathlib.Core.Path.{refl, sym, _∙_}
 use borrow.Author.Needs.{needs}
 use Rattle.message.proofs.read_septets.Statement.{statement}
 use Rattle.message.proofs.read_septets.Tie as tie
-use Rattle.message.proofs.read_septets.Reads as reads
-use Rattle.message.proofs.read_septets.Lts as lts
-use Rattle.message.proofs.show_septets.Reads as show-septets-reads
-use Rattle.packing.proofs.unpack.Reads as unpack-reads
 
--- src/lib.rt:94:51
 slice-aggregate-unpack : tie.Need-slice-aggregate-unpack
 slice-aggregate-unpack c = search needs
 
--- src/lib.rt:94:11
 unpack-requires : tie.Need-unpack-requires
 unpack-requires c κs = search needs
 
--- src/lib.rt:95:22
 enum-known-n : tie.Need-enum-known-n
 enum-known-n c = search needs
 
--- src/lib.rt:95:50
 array-share-prefix-septets : tie.Need-array-share-prefix-septets
 array-share-prefix-septets c = let a = c .before .before .before .before .before .before .before .before .args in unpacked-room (a .service) (a .count) (now (a .octets)) (replicate 182 0) (λ i. c .before .before .before .before .before .before .before .shared-slice-known .given i .fits) refl _ _ (sym (c .before .n .given .1) ∙ c .before .before .before .before .unpack .ensures .0) (c .before .before .before .before .unpack .ensures .1)
 
--- src/lib.rt:95:50
 slice-aggregate-show-septets : tie.Need-slice-aggregate-show-septets
 slice-aggregate-show-septets c = let a = c .before .before .before .before .before .before .before .before .before .args in sym (length-take-le _ _ (unpacked-room (a .service) (a .count) (now (a .octets)) (replicate 182 0) (λ i. c .before .before .before .before .before .before .before .before .shared-slice-known .given i .fits) refl _ _ (sym (c .before .before .n .given .1) ∙ c .before .before .before .before .before .unpack .ensures .0) (c .before .before .before .before .before .unpack .ensures .1)))
 
--- src/lib.rt:95:28
 show-septets-requires : tie.Need-show-septets-requires
 show-septets-requires c κs = search needs
 
--- src/lib.rt:96:25
 enum-known-refusal : tie.Need-enum-known-refusal
 enum-known-refusal c = search needs
 
--- src/lib.rt:89:1
 same-length : tie.Need-same-length
 same-length c = search needs
 
--- src/lib.rt:89:1
 returns : tie.Need-returns
 returns c = let a = c .before .before .before .before .before .before .before .before .before .before .before .before .before .args in let o : List ℕ = now (a .octets) in let e = sym (c .before .before .before .before .before .before .n .given .1) ∙ c .before .before .before .before .before .before .before .before .before .unpack .ensures .0 in let f = unpacked-fits (a .service) (a .count) o (replicate 182 0) (λ i. c .before .before .before .before .before .before .before .before .before .before .before .before .shared-slice-known .given i .fits) refl _ e in let run = unpacked-run (a .service) (a .count) o (replicate 182 0) (λ i. c .before .before .before .before .before .before .before .before .before .before .before .before .shared-slice-known .given i .fits) refl _ _ e (c .before .before .before .before .before .before .before .before .before .unpack .ensures .1) in let s = shown-reads (a .service) (a .count) o (now (a .out)) (λ i. c .before .before .before .before .before .before .before .before .before .before .before .before .shared-slice-known .given i .fits) f _ run in (c .before .before .show-septets .ensures .0 ∙ s .0, c .before .before .show-septets .ensures .1 ∙ s .1)
 
--- src/lib.rt:89:1
 returns-2 : tie.Need-returns-2
 returns-2 c = let a = c .before .before .before .before .before .before .before .before .args in unpacked-refused (a .service) (a .count) (now (a .octets)) (replicate 182 0) (λ i. c .before .before .before .before .before .before .before .shared-slice-known .given i .fits) refl _ (now (a .out)) (sym (c .before .refusal .given .1) ∙ c .before .before .before .before .unpack .ensures .0)
 

@@ -1,80 +1,61 @@
+-- `show_septets` meets its contract: the service decides which text the septets read as. Assumes nothing.
 use Rattle.message.specs.MessageRead.{shownSeptets}
 use Rattle.alphabet.specs.Reading.{textOf, oldTextOf, textAnswers, textLeaves}
 use Rattle.words.specs.declared.Service.{Service}
 use denote.Ref.{now}
-use lib.ListN.{length, replicate}
+use lib.ListN.{length}
 use Prim.Native.Nat.{ℕ}
 use mathlib.Core.List.{List}
-use mathlib.Core.Path.{_≡_, refl, ap, sym, _∙_}
+use mathlib.Core.Path.{_≡_, ap, sym, _∙_}
 use borrow.Author.Needs.{needs}
 use Rattle.message.proofs.show_septets.Statement.{statement}
 use Rattle.message.proofs.show_septets.Tie as tie
-use Rattle.message.proofs.show_septets.Reads as reads
-use Rattle.message.proofs.show_septets.Lts as lts
-use Rattle.alphabet.proofs.old_page_to_text.Reads as old-page-to-text-reads
-use Rattle.alphabet.proofs.septets_to_text.Reads as septets-to-text-reads
 
--- src/lib.rt:106:69
 enum-told : tie.Need-enum-told
 enum-told c = search needs
 
--- src/lib.rt:106:34
 septets-to-text-requires : tie.Need-septets-to-text-requires
 septets-to-text-requires c κs = search needs
 
--- src/lib.rt:107:66
 enum-told-2 : tie.Need-enum-told-2
 enum-told-2 c = search needs
 
--- src/lib.rt:107:31
 septets-to-text-requires-2 : tie.Need-septets-to-text-requires-2
 septets-to-text-requires-2 c κs = search needs
 
--- src/lib.rt:108:61
 enum-told-3 : tie.Need-enum-told-3
 enum-told-3 c = search needs
 
--- src/lib.rt:108:26
 septets-to-text-requires-3 : tie.Need-septets-to-text-requires-3
 septets-to-text-requires-3 c κs = search needs
 
--- src/lib.rt:109:65
 enum-told-4 : tie.Need-enum-told-4
 enum-told-4 c = search needs
 
--- src/lib.rt:109:29
 old-page-to-text-requires : tie.Need-old-page-to-text-requires
 old-page-to-text-requires c κs = search needs
 
--- src/lib.rt:101:1
 same-length : tie.Need-same-length
 same-length c = search needs
 
--- src/lib.rt:101:1
 returns : tie.Need-returns
 returns c = let a = c .before .before .before .before .before .before .before .before .args in let s : List ℕ = now (a .septets) in let e : shownSeptets (a .service) s ≡ textOf s = ap (λ (x : Service). shownSeptets x s) (c .before .before .before .before .enum-told .given .1) in (c .before .before .septets-to-text .ensures .0 ∙ ap (λ (t : List ℕ). textAnswers s t (length (now (a .out)))) (sym e), c .before .before .septets-to-text .ensures .1 ∙ ap (λ (t : List ℕ). textLeaves s t (now (a .out))) (sym e))
 
--- src/lib.rt:101:1
 same-length-2 : tie.Need-same-length-2
 same-length-2 c = search needs
 
--- src/lib.rt:101:1
 returns-2 : tie.Need-returns-2
 returns-2 c = let a = c .before .before .before .before .before .before .before .before .args in let s : List ℕ = now (a .septets) in let e : shownSeptets (a .service) s ≡ textOf s = ap (λ (x : Service). shownSeptets x s) (c .before .before .before .before .enum-told2 .given .1) in (c .before .before .septets-to-text2 .ensures .0 ∙ ap (λ (t : List ℕ). textAnswers s t (length (now (a .out)))) (sym e), c .before .before .septets-to-text2 .ensures .1 ∙ ap (λ (t : List ℕ). textLeaves s t (now (a .out))) (sym e))
 
--- src/lib.rt:101:1
 same-length-3 : tie.Need-same-length-3
 same-length-3 c = search needs
 
--- src/lib.rt:101:1
 returns-3 : tie.Need-returns-3
 returns-3 c = let a = c .before .before .before .before .before .before .before .before .args in let s : List ℕ = now (a .septets) in let e : shownSeptets (a .service) s ≡ textOf s = ap (λ (x : Service). shownSeptets x s) (c .before .before .before .before .enum-told3 .given .1) in (c .before .before .septets-to-text3 .ensures .0 ∙ ap (λ (t : List ℕ). textAnswers s t (length (now (a .out)))) (sym e), c .before .before .septets-to-text3 .ensures .1 ∙ ap (λ (t : List ℕ). textLeaves s t (now (a .out))) (sym e))
 
--- src/lib.rt:101:1
 same-length-4 : tie.Need-same-length-4
 same-length-4 c = search needs
 
--- src/lib.rt:101:1
 returns-4 : tie.Need-returns-4
 returns-4 c = let a = c .before .before .before .before .before .before .before .before .args in let s : List ℕ = now (a .septets) in let e : shownSeptets (a .service) s ≡ oldTextOf s = ap (λ (x : Service). shownSeptets x s) (c .before .before .before .before .enum-told4 .given .1) in (c .before .before .old-page-to-text .ensures .0 ∙ ap (λ (t : List ℕ). textAnswers s t (length (now (a .out)))) (sym e), c .before .before .old-page-to-text .ensures .1 ∙ ap (λ (t : List ℕ). textLeaves s t (now (a .out))) (sym e))
 

@@ -1,65 +1,45 @@
+-- `write_held` meets its contract: what the reading holds decides the rules that are left. Assumes nothing.
 use Rattle.message.proofs.Steps.{held-writes-septets, held-writes-units, held-writes-refused}
 use Rattle.message.specs.Inner.{unitsAs}
 use denote.Ref.{now}
-use lib.ListN.{length, replicate}
-use Prim.Native.Nat.{ℕ}
-use mathlib.Core.List.{List}
-use mathlib.Core.Path.{_≡_, refl, ap, sym, _∙_}
+use mathlib.Core.Path.{ap, sym, _∙_}
 use borrow.Author.Needs.{needs}
 use Rattle.message.proofs.write_held.Statement.{statement}
 use Rattle.message.proofs.write_held.Tie as tie
-use Rattle.message.proofs.write_held.Reads as reads
-use Rattle.message.proofs.write_held.Lts as lts
-use Rattle.coding.proofs.Reading.holds.Reads as holds-reads
-use Rattle.message.proofs.counted.Reads as counted-reads
-use Rattle.message.proofs.write_septets.Reads as write-septets-reads
-use Rattle.packing.proofs.units_to_octets.Reads as units-to-octets-reads
 
--- src/lib.rt:144:11
 holds-requires : tie.Need-holds-requires
 holds-requires c κs = search needs
 
--- src/lib.rt:145:64
 enum-told : tie.Need-enum-told
 enum-told c = search needs
 
--- src/lib.rt:145:26
 write-septets-requires : tie.Need-write-septets-requires
 write-septets-requires c κs = search needs
 
--- src/lib.rt:146:90
 enum-told-2 : tie.Need-enum-told-2
 enum-told-2 c = search needs
 
--- src/lib.rt:146:49
 units-to-octets-requires : tie.Need-units-to-octets-requires
 units-to-octets-requires c κs = search needs
 
--- src/lib.rt:146:24
 counted-requires : tie.Need-counted-requires
 counted-requires c κs = search needs
 
--- src/lib.rt:147:23
 enum-known-refusal : tie.Need-enum-known-refusal
 enum-known-refusal c = search needs
 
--- src/lib.rt:133:1
 same-length : tie.Need-same-length
 same-length c = search needs
 
--- src/lib.rt:133:1
 returns : tie.Need-returns
 returns c = let a = c .before .before .before .before .before .before .before .before .before .args in let s = held-writes-septets (a .service) (a .reading) (a .coding) (now (a .units)) (now (a .out)) (sym (c .before .before .before .before .enum-told .given .1) ∙ c .before .before .before .before .before .before .holds .ensures) in (c .before .before .write-septets .ensures .0 ∙ s .0, c .before .before .write-septets .ensures .1 ∙ s .1)
 
--- src/lib.rt:133:1
 same-length-2 : tie.Need-same-length-2
 same-length-2 c = search needs
 
--- src/lib.rt:133:1
 returns-2 : tie.Need-returns-2
 returns-2 c = let a = c .before .before .before .before .before .before .before .before .before .before .args in let s = held-writes-units (a .service) (a .reading) (a .coding) (now (a .units)) (now (a .out)) (sym (c .before .before .before .before .before .enum-told2 .given .1) ∙ c .before .before .before .before .before .before .before .holds .ensures) (c .before .before .before .before .before .before .before .before .before .before .pre) in (c .counted .ensures ∙ ap (unitsAs (a .service) (a .coding)) (c .before .before .before .units-to-octets .ensures .0) ∙ s .0, c .before .before .before .units-to-octets .ensures .1 ∙ s .1)
 
--- src/lib.rt:133:1
 returns-3 : tie.Need-returns-3
 returns-3 c = let a = c .before .before .before .before .before .before .args in held-writes-refused (a .service) (a .reading) (a .coding) (now (a .units)) (now (a .out)) _ (sym (c .before .refusal .given .1) ∙ c .before .before .before .holds .ensures)
 

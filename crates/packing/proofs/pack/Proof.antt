@@ -9,14 +9,14 @@ use lib.Dec.{leb}
 use lib.ListN.{length}
 use Rattle.words.specs.declared.Service.the-variants.{ShortMessage, Broadcast, Ussd}
 use Rattle.words.specs.declared.Refusal.the-variants.{NoSeptet}
-use Rattle.words.specs.Sizes.{mostSeptets}
+use Rattle.words.specs.Sizes.{mostSeptets, isOldPage}
 use Rattle.words.specs.Lists.{firstPlace}
 use Rattle.words.specs.Judging.{verdict}
 use Rattle.words.proofs.Below.{Below}
 use Rattle.packing.specs.declared.Packed.the-variants.{Refused}
 use Rattle.stream.specs.Stream.{packed}
 use Rattle.stream.specs.UssdPacking.{withCr, closed, ussdOctets}
-use Rattle.packing.specs.SeptetCalls.{isOldPage, packRules, packAnswers, packLeaves}
+use Rattle.packing.specs.SeptetCalls.{packRules, packAnswers, packLeaves}
 use Rattle.packing.proofs.Given.{Gives}
 use Rattle.packing.proofs.Calls.{none-high, pack-passed}
 use borrow.Author.Needs.{needs}

@@ -6,9 +6,8 @@ use native.Mathlib.Omega.{arith}
 use borrow.Author.Tests.{lt-ltb}
 use lib.ListN.{length}
 use Rattle.words.specs.declared.Service.the-variants.{ShortMessage, Broadcast, Ussd}
-use Rattle.words.specs.Sizes.{mostUnits}
+use Rattle.words.specs.Sizes.{mostUnits, isOldPage}
 use Rattle.words.specs.Judging.{verdict}
-use Rattle.packing.specs.SeptetCalls.{isOldPage}
 use Rattle.packing.specs.UnitCalls.{toOctetsRules, toOctetsAnswers, toOctetsLeaves}
 use Rattle.packing.proofs.Calls.{to-octets-passed}
 use borrow.Author.Needs.{needs}

@@ -1,6 +1,6 @@
 -- Each turn stores the next digit of the number in base 2 ^ u after those that are stored.
 use lib.Pow.{pow-pos, pow-mono}
-use lib.Bits.{mask-lt}
+use lib.Bits.{mask-lt, bitAnd}
 use native.Mathlib.Nat.{lt-of-lt-of-le}
 use Prim.Native.Nat.{ℕ, _≤_, _+_, _-_, _*_, _/_, _%_, _^_, _<_}
 use mathlib.Core.Path.{_≡_, sym, ap, ap₂, _∙_}
@@ -9,7 +9,6 @@ use native.Mathlib.Omega.{arith}
 use native.Mathlib.Numerals.{add-one}
 use lib.ListN.{length, take, drop, getD, set}
 use lib.Seq.{paste, paste-zero, paste-suc, take-all}
-use lib.Bits.{bitAnd}
 use Rattle.stream.specs.Inner.{digits}
 use Rattle.stream.proofs.Numbers.{digits-length, piece-at, shift-most, mask-ones}
 use borrow.Author.Needs.{needs}

@@ -3,7 +3,6 @@ use mathlib.Core.Path.{_≡_, ap, _∙_}
 use Rattle.words.specs.declared.Service.{Service}
 use Rattle.words.specs.declared.Service.the-variants.{Broadcast, Ussd, OldPage}
 use Rattle.packing.proofs.Calls.{exact-holds, exact-fails, most-holds, most-fails}
-use mathlib.Core.Path.{ap, _∙_}
 use lib.Dec.{eqb}
 use Rattle.words.specs.Sizes.{mostSeptets, mostOctets}
 use borrow.Author.Needs.{needs}

@@ -1,6 +1,6 @@
 -- The septets from n on are filling, so that the first n decide what is left.
 use Rattle.words.proofs.Closing.{Filled-from, filled-end, filled-down, filled-here, filled-whole}
-use Prim.Native.Nat.{_≤_, _-_}
+use Prim.Native.Nat.{_≤_}
 use lib.ListN.{length}
 use borrow.Author.Needs.{needs}
 use Rattle.packing.proofs.septets.kept.Statement.{statement}

@@ -1,14 +1,13 @@
 -- The tests are those of the definition, service by service; an odd number of octets fails them all.
 use Rattle.words.specs.declared.Service.{Service}
 use Rattle.words.specs.declared.Service.the-variants.{ShortMessage, Broadcast, Ussd}
-use Rattle.packing.proofs.Calls.{exact-holds, exact-fails, most-holds, most-fails}
+use Rattle.packing.proofs.Calls.{exact-holds, exact-fails, most-holds, most-fails, odd-unfit}
 use Prim.Native.Nat.{_%_}
 use mathlib.Core.Path.{_≡_, ap, _∙_}
 use mathlib.Core.Bool.{and-true}
 use native.Mathlib.Omega.{arith}
 use borrow.Author.Tests.{eq-eqb}
 use Rattle.words.specs.Sizes.{mostOctets}
-use Rattle.packing.proofs.Calls.{odd-unfit}
 use borrow.Author.Needs.{needs}
 use Rattle.packing.proofs.units.fits.Statement.{statement}
 use Rattle.packing.proofs.units.fits.Tie as tie

@@ -1,11 +1,10 @@
 -- The octets of the units passed are laid over the front of out, two a turn.
-use lib.ListN.{length-set}
+use lib.ListN.{length-set, length, getD, drop, set, drop-of-length-le}
 use Prim.Native.Nat.{ℕ, _≤_, _+_, _-_, _*_, _/_, _%_}
 use mathlib.Core.Path.{_≡_, sym, ap}
 use mathlib.Core.List.{List}
 use native.Mathlib.Omega.{arith}
 use lib.Bits.{and-mask, mask-lt}
-use lib.ListN.{length, getD, drop, set, drop-of-length-le}
 use Rattle.words.proofs.Laid.{Laying, lay-none, lay-left, lay-one, lay-moved, lay-end}
 use Rattle.stream.specs.Ucs2.{unitOctets}
 use Rattle.stream.proofs.UnitOctets.{unit-octets-length, unit-octets-next}
