@@ -161,9 +161,9 @@ fn counted(service: Service, coding: u8, answer: Filled) -> MessageWritten
 {
     match answer {
         Filled::Done(octets) => MessageWritten::Done {
-            octets: octets,
+            octets,
             count: ucs2_count(service, octets),
-            coding: coding,
+            coding,
         },
         Filled::Refused(refusal) => MessageWritten::Refused(refusal),
     }
