@@ -212,6 +212,13 @@ def print_case(label, call, inputs, answer):
 # ---------------------------------------------------------------------------------------------------------------------
 # Running
 
+def first_other(buffer, start, filling):
+    """The first position from start on that holds something else than the filling, or None."""
+    if buffer[start:] == [filling] * (len(buffer) - start):
+        return None
+    return next(at for at in range(start, len(buffer)) if buffer[at] != filling)
+
+
 def run_call(call, inputs):
     """The whole answer, and the position of the first touched element behind the written ones, or None."""
     function, _, answer_keys, out_kind = CALLS[call]
@@ -228,8 +235,7 @@ def run_call(call, inputs):
     if out_kind:
         written = min(answer["written"], len(buffer))
         answer["out"] = buffer[:written]
-        behind = [at for at in range(written, len(buffer)) if buffer[at] != FILLING[out_kind]]
-        touched = behind[0] if behind else None
+        touched = first_other(buffer, written, FILLING[out_kind])
     return {key: answer[key] for key in answer_keys}, touched
 
 

@@ -137,14 +137,22 @@ def reading_of(service, octet):
 
 
 @lru_cache(maxsize=None)
-def octet_of(service, reading):
-    """The smallest octet that reads so under that service."""
-    if service == OLD or reading.reserved:
-        raise Refused(8)
+def smallest_octet(service, reading):
+    """The smallest octet that reads so under that service, or None."""
     for octet in range(256):
         if reading_of(service, octet) == reading:
             return octet
-    raise Refused(8)
+    return None
+
+
+def octet_of(service, reading):
+    """The octet that is written for a reading."""
+    if service == OLD or reading.reserved:
+        raise Refused(8)
+    octet = smallest_octet(service, reading)
+    if octet is None:
+        raise Refused(8)
+    return octet
 
 
 def text_of(reading):
