@@ -11,6 +11,7 @@ import io
 import unittest
 
 import cases
+import count
 import regenerate
 import wikuay
 
@@ -89,6 +90,10 @@ class Vectors(unittest.TestCase):
             lines = lines_of(path)
             with open(path, "rb") as file:
                 self.assertEqual(run(file.read()), "%d cases, 0 differ\n" % len(lines), path)
+
+    def test_table_of_the_docs(self):
+        with open("docs/VECTORS.md", encoding="utf-8") as file:
+            self.assertIn("\n".join(count.table()), file.read())
 
     def test_generated_files_are_what_their_programs_write(self):
         self.assertEqual(regenerate.stale_files(), [])
