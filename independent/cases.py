@@ -1,0 +1,294 @@
+"""Runs cases in the format of docs/CASES.md on the second implementation.
+
+    python3 independent/cases.py < vectors/scope.txt       runs the cases on standard input
+    python3 independent/cases.py --random 100 --seed 7     writes 100 new cases with this implementation's answers
+
+The exit status of a run is 0 if nothing differs and 1 if something does.
+"""
+
+import argparse
+import re
+import sys
+
+import wikuay
+from wikuay import Notice, Reading, Refused
+
+LONGEST_LINE = 8192
+LARGEST_ROOM = 4096
+LARGEST_NUMBER = 4294967295
+
+
+class NotACase(Exception):
+    """A line that does not follow docs/CASES.md."""
+
+
+# ---------------------------------------------------------------------------------------------------------------------
+# Readings in words
+
+# Each field of a reading and its words, in the order of docs/CASES.md.
+WORDS = (
+    ("alphabet", ("8bit", "ucs2", "wap")),
+    ("compressed", ("compressed",)),
+    ("class", ("class0", "class1", "class2", "class3", "user1", "user2")),
+    ("language", tuple(word for word in wikuay.LANGUAGES if word) + ("czech",)),
+    ("deletion", ("deletion",)),
+    ("handling", ("discard", "store")),
+    ("sense", ("active", "inactive")),
+    ("kind", ("voicemail", "fax", "mail", "other")),
+    ("prefix", ("prefix",)),
+    ("reserved", ("reserved",)),
+)
+
+
+def parse_reading(value):
+    said = {}
+    if value != "plain":
+        at = 0
+        for word in value.split("+"):
+            while at < len(WORDS) and word not in WORDS[at][1]:
+                at += 1
+            if at == len(WORDS):
+                raise NotACase
+            said[WORDS[at][0]] = word
+            at += 1
+    parts = [said.get(field) for field in ("handling", "sense", "kind")]
+    if None in parts and parts != [None, None, None]:
+        raise NotACase
+    notice = Notice(parts[0], parts[1] == "active", parts[2]) if parts[0] else None
+    return Reading(alphabet=said.get("alphabet", wikuay.SEVEN), compressed="compressed" in said,
+                   message_class=said.get("class"), language=said.get("language"), deletion="deletion" in said,
+                   notice=notice, prefix="prefix" in said, reserved="reserved" in said)
+
+
+def print_reading(reading):
+    words = []
+    if reading.alphabet != wikuay.SEVEN:
+        words.append(reading.alphabet)
+    if reading.compressed:
+        words.append("compressed")
+    if reading.message_class:
+        words.append(reading.message_class)
+    if reading.language:
+        words.append(reading.language)
+    if reading.deletion:
+        words.append("deletion")
+    if reading.notice:
+        words += [reading.notice.handling, "active" if reading.notice.active else "inactive", reading.notice.kind]
+    if reading.prefix:
+        words.append("prefix")
+    if reading.reserved:
+        words.append("reserved")
+    return "+".join(words) or "plain"
+
+
+# ---------------------------------------------------------------------------------------------------------------------
+# The other values
+
+def parse_word(words):
+    def parse(value):
+        if value not in words:
+            raise NotACase
+        return value
+    return parse
+
+
+def parse_number(value, largest=LARGEST_NUMBER):
+    if not re.fullmatch("0|[1-9][0-9]{0,9}", value) or int(value) > largest:
+        raise NotACase
+    return int(value)
+
+
+def parse_room(value):
+    return parse_number(value, LARGEST_ROOM)
+
+
+def parse_octet(value):
+    if not re.fullmatch("[0-9A-F]{2}", value):
+        raise NotACase
+    return int(value, 16)
+
+
+def parse_elements(digits):
+    def parse(value):
+        if value == "-":
+            return []
+        if not re.fullmatch("([0-9A-F]{%d})+" % digits, value):
+            raise NotACase
+        return [int(value[at:at + digits], 16) for at in range(0, len(value), digits)]
+    return parse
+
+
+def print_elements(digits):
+    return lambda elements: "".join("%0*X" % (digits, element) for element in elements) or "-"
+
+
+def print_octet(octet):
+    return "%02X" % octet
+
+
+# What each kind of value is parsed and printed by.
+KINDS = {
+    "service": (parse_word(wikuay.SERVICES), str),
+    "holds": (parse_word(("7bit", "ucs2", "none")), str),
+    "number": (parse_number, str),
+    "room": (parse_room, str),
+    "octet": (parse_octet, print_octet),
+    "octets": (parse_elements(2), print_elements(2)),
+    "text": (parse_elements(4), print_elements(4)),
+    "reading": (parse_reading, print_reading),
+}
+
+
+# ---------------------------------------------------------------------------------------------------------------------
+# Calls and their keys
+
+# A key's kind of value where it is not the key itself. The kind of `out` is given with each call.
+KIND_OF_KEY = {"coding": "octet", "septets": "octets", "refusal": "number", "position": "number", "written": "number",
+               "count": "number"}
+
+# Name, function, keys of the inputs, keys of the answer, kind of `out`.
+CALLS = {name: (function, inputs.split(), answer.split(), out) for name, function, inputs, answer, out in (
+    ("read-coding", wikuay.read_coding, "service coding", "refusal position reading", None),
+    ("write-coding", wikuay.write_coding, "service reading", "refusal position coding", None),
+    ("holds-text", wikuay.holds_text, "reading", "refusal position holds", None),
+    ("pack", wikuay.pack, "service septets room", "refusal position written count out", "octets"),
+    ("unpack", wikuay.unpack, "service count octets room", "refusal position written out", "octets"),
+    ("text-to-septets", wikuay.text_to_septets, "text room", "refusal position written out", "octets"),
+    ("septets-to-text", wikuay.septets_to_text, "septets room", "refusal position written out", "text"),
+    ("read-message", wikuay.read_message, "service coding count octets room",
+     "refusal position written reading out", "text"),
+    ("write-message", wikuay.write_message, "service reading text room",
+     "refusal position written count coding out", "octets"),
+)}
+
+# What a refusal holds beside its number and position.
+REFUSED = {"written": 0, "count": 0, "coding": 0, "reading": wikuay.PLAIN, "holds": "none", "out": []}
+
+FILLING = {"octets": 0xA5, "text": 0xA5A5}
+
+
+def kind_of(key, out_kind):
+    return out_kind if key == "out" else KIND_OF_KEY.get(key, key)
+
+
+def parse_values(parts, keys, out_kind):
+    """The values of the parts, which are exactly these keys in this order."""
+    if len(parts) != len(keys):
+        raise NotACase
+    values = {}
+    for part, key in zip(parts, keys):
+        if not part.startswith(key + "="):
+            raise NotACase
+        values[key] = KINDS[kind_of(key, out_kind)][0](part[len(key) + 1:])
+    return values
+
+
+def print_values(values, keys, out_kind):
+    return " ".join(key + "=" + KINDS[kind_of(key, out_kind)][1](values[key]) for key in keys)
+
+
+def parse_case(line):
+    """Label, call, inputs and expected answer of a line."""
+    if not re.fullmatch("[ -~]+", line):
+        raise NotACase
+    parts = line.split(" ")
+    if len(parts) < 3 or ":" not in parts[2:]:
+        raise NotACase
+    label, call = parts[:2]
+    if not re.fullmatch("[A-Za-z0-9._-]{1,64}", label) or call not in CALLS:
+        raise NotACase
+    colon = parts.index(":", 2)
+    _, inputs, answer, out_kind = CALLS[call]
+    return (label, call, parse_values(parts[2:colon], inputs, out_kind),
+            parse_values(parts[colon + 1:], answer, out_kind))
+
+
+def print_case(label, call, inputs, answer):
+    _, input_keys, answer_keys, out_kind = CALLS[call]
+    return "%s %s %s : %s" % (label, call, print_values(inputs, input_keys, out_kind),
+                              print_values(answer, answer_keys, out_kind))
+
+
+# ---------------------------------------------------------------------------------------------------------------------
+# Running
+
+def first_other(buffer, start, filling):
+    """The first position from start on that holds something else than the filling, or None."""
+    if buffer[start:] == [filling] * (len(buffer) - start):
+        return None
+    return next(at for at in range(start, len(buffer)) if buffer[at] != filling)
+
+
+def run_call(call, inputs):
+    """The whole answer, and the position of the first touched element behind the written ones, or None."""
+    function, _, answer_keys, out_kind = CALLS[call]
+    given = {key: value for key, value in inputs.items() if key != "room"}
+    buffer = None
+    if out_kind:
+        buffer = [FILLING[out_kind]] * inputs["room"]
+        given["out"] = buffer
+    try:
+        answer = {"refusal": 0, "position": 0, **function(**given)}
+    except Refused as refused:
+        answer = {**REFUSED, "refusal": refused.number, "position": refused.position}
+    touched = None
+    if out_kind:
+        written = min(answer["written"], len(buffer))
+        answer["out"] = buffer[:written]
+        touched = first_other(buffer, written, FILLING[out_kind])
+    return {key: answer[key] for key in answer_keys}, touched
+
+
+def run_line(line, number):
+    """None if the line's case agrees, else what to print."""
+    if len(line) > LONGEST_LINE:
+        return "line %d: longer than %d characters" % (number, LONGEST_LINE)
+    try:
+        label, call, inputs, expected = parse_case(line)
+    except NotACase:
+        return "line %d: not a case" % number
+    came, touched = run_call(call, inputs)
+    if came == expected and touched is None:
+        return None
+    _, _, answer_keys, out_kind = CALLS[call]
+    return "%s: expected %s; came %s%s" % (
+        label, print_values(expected, answer_keys, out_kind), print_values(came, answer_keys, out_kind),
+        "" if touched is None else " touched=%d" % touched)
+
+
+def run(lines, write):
+    """Runs all lines, each without its line feed. Answers how many cases differ."""
+    cases = differ = 0
+    for number, line in enumerate(lines, 1):
+        if line == "" or line.startswith("#"):
+            continue
+        cases += 1
+        complaint = run_line(line, number)
+        if complaint is not None:
+            differ += 1
+            write(complaint + "\n")
+    write("%d cases, %d differ\n" % (cases, differ))
+    return differ
+
+
+def input_lines(stream):
+    """The lines of a stream of octets, closed by 0A and by nothing else, an octet a character."""
+    for line in stream:
+        yield (line[:-1] if line.endswith(b"\n") else line).decode("latin-1")
+
+
+def main():
+    parser = argparse.ArgumentParser(description="Run cases on standard input, or write new random ones.")
+    parser.add_argument("--random", type=int, metavar="N", help="write N random cases")
+    parser.add_argument("--seed", type=int, default=1, metavar="S", help="the seed of the random cases")
+    arguments = parser.parse_args()
+    if arguments.random is not None:
+        from random_cases import random_cases
+        for line in random_cases(arguments.random, arguments.seed):
+            sys.stdout.write(line + "\n")
+        return 0
+    return 1 if run(input_lines(sys.stdin.buffer), sys.stdout.write) else 0
+
+
+if __name__ == "__main__":
+    sys.exit(main())

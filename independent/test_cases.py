@@ -1,0 +1,103 @@
+"""Unit tests of the case format: what is parsed, what is printed, and that the vectors are whole.
+
+    python3 -m unittest discover independent
+
+Run from the root of the repository.
+"""
+
+import collections
+import glob
+import io
+import unittest
+
+import cases
+import count
+import regenerate
+import wikuay
+
+
+def run(text):
+    printed = []
+    cases.run(cases.input_lines(io.BytesIO(text)), printed.append)
+    return "".join(printed)
+
+
+def lines_of(path):
+    with open(path, encoding="ascii", newline="") as file:
+        return [line for line in file.read().split("\n") if line and not line.startswith("#")]
+
+
+class Format(unittest.TestCase):
+    def test_empty_input(self):
+        self.assertEqual(run(b""), "0 cases, 0 differ\n")
+        self.assertEqual(run(b"\n# comment\n\n"), "0 cases, 0 differ\n")
+
+    def test_faults(self):
+        with open("independent/faults.txt", "rb") as given, open("independent/faults.out", encoding="ascii") as printed:
+            self.assertEqual(run(given.read()), printed.read())
+
+    def test_touched_buffer_differs(self):
+        line = b"t text-to-septets text=0041 room=4 : refusal=0 position=0 written=1 out=41\n"
+        self.assertEqual(run(line), "1 cases, 0 differ\n")
+
+        def careless(text, out):
+            out[0], out[2] = 0x41, 0
+            return {"written": 1}
+
+        good = cases.CALLS["text-to-septets"]
+        cases.CALLS["text-to-septets"] = (careless,) + good[1:]
+        try:
+            self.assertEqual(run(line), "t: expected refusal=0 position=0 written=1 out=41; "
+                                        "came refusal=0 position=0 written=1 out=41 touched=2\n1 cases, 1 differ\n")
+        finally:
+            cases.CALLS["text-to-septets"] = good
+
+    def test_written_more_than_the_room(self):
+        def careless(text, out):
+            out[0] = 0x41
+            return {"written": 9}
+
+        good = cases.CALLS["text-to-septets"]
+        cases.CALLS["text-to-septets"] = (careless,) + good[1:]
+        try:
+            self.assertEqual(run(b"t text-to-septets text=0041 room=2 : refusal=0 position=0 written=1 out=41\n"),
+                             "t: expected refusal=0 position=0 written=1 out=41; "
+                             "came refusal=0 position=0 written=9 out=41A5\n1 cases, 1 differ\n")
+        finally:
+            cases.CALLS["text-to-septets"] = good
+
+    def test_every_reading_comes_back(self):
+        for service in (wikuay.SMS, wikuay.BROADCAST):
+            for octet in range(256):
+                reading = wikuay.reading_of(service, octet)
+                self.assertEqual(cases.parse_reading(cases.print_reading(reading)), reading)
+
+
+class Vectors(unittest.TestCase):
+    FILES = sorted(glob.glob("vectors/*.txt"))
+
+    def test_labels_are_unique(self):
+        labels = collections.Counter(line.split(" ", 1)[0] for path in self.FILES for line in lines_of(path))
+        self.assertEqual([label for label, times in labels.items() if times > 1], [])
+
+    def test_every_line_is_in_its_one_spelling(self):
+        for path in self.FILES:
+            for line in lines_of(path):
+                self.assertEqual(cases.print_case(*cases.parse_case(line)), line)
+
+    def test_nothing_differs(self):
+        for path in self.FILES:
+            lines = lines_of(path)
+            with open(path, "rb") as file:
+                self.assertEqual(run(file.read()), "%d cases, 0 differ\n" % len(lines), path)
+
+    def test_table_of_the_docs(self):
+        with open("docs/VECTORS.md", encoding="utf-8") as file:
+            self.assertIn("\n".join(count.table()), file.read())
+
+    def test_generated_files_are_what_their_programs_write(self):
+        self.assertEqual(regenerate.stale_files(), [])
+
+
+if __name__ == "__main__":
+    unittest.main()

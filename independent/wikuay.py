@@ -1,0 +1,426 @@
+"""A second implementation of the base of Wikuay, written from document 01 alone.
+
+It follows document 01 section by section and does everything in the plainest way. The nine calls at the end are what
+the cases run. Each stores its result in a buffer that the caller lends, a list, and answers with a dictionary. A call
+that refuses raises Refused, and has then stored nothing.
+"""
+
+from functools import lru_cache
+from typing import NamedTuple
+
+
+class Refused(Exception):
+    """A refusal: its number and its position."""
+
+    def __init__(self, number, position=0):
+        super().__init__(number, position)
+        self.number = number
+        self.position = position
+
+
+# ---------------------------------------------------------------------------------------------------------------------
+# Services and their sizes
+
+SMS, BROADCAST, USSD, OLD = "sms", "broadcast", "ussd", "old"
+SERVICES = (SMS, BROADCAST, USSD, OLD)
+
+SEPTETS = {SMS: 160, BROADCAST: 93, USSD: 182, OLD: 93}
+UNITS = {SMS: 70, BROADCAST: 41, USSD: 80}
+OCTETS = {SMS: 140, BROADCAST: 82, USSD: 160, OLD: 82}
+EXACT = (BROADCAST, OLD)  # services whose octets are exactly that many
+
+
+# ---------------------------------------------------------------------------------------------------------------------
+# Reading the data coding octet
+
+SEVEN, EIGHT, UCS2, WAP = "7bit", "8bit", "ucs2", "wap"
+CLASSES = ("class0", "class1", "class2", "class3")
+LANGUAGES = ("german", "english", "italian", "french", "spanish", "dutch", "swedish", "danish", "portuguese", "finnish",
+             "norwegian", "greek", "turkish", "hungarian", "polish", None)
+KINDS = ("voicemail", "fax", "mail", "other")
+
+
+class Notice(NamedTuple):
+    """A waiting notice. One that is not active is still a notice."""
+    handling: str  # "discard" or "store"
+    active: bool
+    kind: str
+
+
+class Reading(NamedTuple):
+    """What a data coding octet says. The defaults are what a rule does not mention."""
+    alphabet: str = SEVEN
+    compressed: bool = False
+    message_class: str = None
+    language: str = None
+    deletion: bool = False
+    notice: Notice = None
+    prefix: bool = False
+    reserved: bool = False
+
+
+PLAIN = Reading()
+RESERVED = Reading(reserved=True)
+
+
+def bit(octet, number):
+    return (octet >> number) & 1
+
+
+def general_coding(octet):
+    """00xx of a short message: bit 5 compressed, bits 3..2 alphabet, bit 4 makes bits 1..0 the class."""
+    alphabet = (SEVEN, EIGHT, UCS2, None)[(octet >> 2) & 3]
+    if alphabet is None:
+        return RESERVED
+    return Reading(alphabet=alphabet, compressed=bit(octet, 5) == 1,
+                   message_class=CLASSES[octet & 3] if bit(octet, 4) else None)
+
+
+def read_sms_coding(octet):
+    group = octet >> 4
+    if group <= 0b0011:
+        return general_coding(octet)
+    if group <= 0b0111:
+        reading = general_coding(octet)
+        return reading if reading.reserved else reading._replace(deletion=True)
+    if group <= 0b1011:
+        return RESERVED
+    if group <= 0b1110:
+        if bit(octet, 2):
+            return RESERVED
+        handling = "discard" if group == 0b1100 else "store"
+        return Reading(alphabet=UCS2 if group == 0b1110 else SEVEN,
+                       notice=Notice(handling, bit(octet, 3) == 1, KINDS[octet & 3]))
+    if bit(octet, 3):
+        return RESERVED
+    return Reading(alphabet=EIGHT if bit(octet, 2) else SEVEN, message_class=CLASSES[octet & 3])
+
+
+def read_broadcast_coding(octet):
+    """The data coding octet of a broadcast page, and of USSD."""
+    group = octet >> 4
+    if group == 0b0000:
+        return Reading(language=LANGUAGES[octet & 15])
+    if octet == 0b00010000:
+        return Reading(prefix=True)
+    if octet == 0b00010001:
+        return Reading(alphabet=UCS2, prefix=True)
+    if octet == 0b00100000:
+        return Reading(language="czech")
+    if group <= 0b0011:
+        return RESERVED
+    if group <= 0b0111:
+        return general_coding(octet)
+    if group <= 0b1101:
+        return RESERVED
+    if group == 0b1110:
+        return Reading(alphabet=WAP)
+    if bit(octet, 3):
+        return RESERVED
+    return Reading(alphabet=EIGHT if bit(octet, 2) else SEVEN,
+                   message_class=(None, "user1", "user2", "class3")[octet & 3])
+
+
+def read_old_coding(octet):
+    """Bits 3..0 are the alphabet, which must be 0. Bits 7..4 are the language, which is ignored."""
+    if octet & 15:
+        raise Refused(2)
+    return PLAIN
+
+
+def reading_of(service, octet):
+    if service == SMS:
+        return read_sms_coding(octet)
+    if service == OLD:
+        return read_old_coding(octet)
+    return read_broadcast_coding(octet)
+
+
+@lru_cache(maxsize=None)
+def smallest_octet(service, reading):
+    """The smallest octet that reads so under that service, or None."""
+    for octet in range(256):
+        if reading_of(service, octet) == reading:
+            return octet
+    return None
+
+
+def octet_of(service, reading):
+    """The octet that is written for a reading."""
+    if service == OLD or reading.reserved:
+        raise Refused(8)
+    octet = smallest_octet(service, reading)
+    if octet is None:
+        raise Refused(8)
+    return octet
+
+
+def text_of(reading):
+    """Which text the reading holds: 7-bit or UCS2."""
+    if reading.compressed:
+        raise Refused(1)
+    if reading.alphabet in (EIGHT, WAP):
+        raise Refused(2)
+    if reading.prefix:
+        raise Refused(3)
+    return reading.alphabet
+
+
+# ---------------------------------------------------------------------------------------------------------------------
+# The alphabet
+
+ESCAPE, CR, SPACE = 0x1B, 0x0D, 0x0020
+
+MAIN = {code: code for code in range(0x20, 0x80)}
+MAIN.update(enumerate([
+    0x0040, 0x00A3, 0x0024, 0x00A5, 0x00E8, 0x00E9, 0x00F9, 0x00EC,
+    0x00F2, 0x00C7, 0x000A, 0x00D8, 0x00F8, 0x000D, 0x00C5, 0x00E5,
+    0x0394, 0x005F, 0x03A6, 0x0393, 0x039B, 0x03A9, 0x03A0, 0x03A8,
+    0x03A3, 0x0398, 0x039E, None, 0x00C6, 0x00E6, 0x00DF, 0x00C9]))
+MAIN.update({
+    0x24: 0x00A4, 0x40: 0x00A1,
+    0x5B: 0x00C4, 0x5C: 0x00D6, 0x5D: 0x00D1, 0x5E: 0x00DC, 0x5F: 0x00A7, 0x60: 0x00BF,
+    0x7B: 0x00E4, 0x7C: 0x00F6, 0x7D: 0x00F1, 0x7E: 0x00FC, 0x7F: 0x00E0})
+del MAIN[ESCAPE]
+
+EXTENSION = {
+    0x0A: 0x000C, 0x14: 0x005E, 0x28: 0x007B, 0x29: 0x007D, 0x2F: 0x005C,
+    0x3C: 0x005B, 0x3D: 0x007E, 0x3E: 0x005D, 0x40: 0x007C, 0x65: 0x20AC}
+
+CODES = {unit: [code] for code, unit in MAIN.items()}
+CODES.update({unit: [ESCAPE, code] for code, unit in EXTENSION.items()})
+
+
+def septets_of(text):
+    """The septets of a text: one code for a unit, or escape and code."""
+    septets = []
+    for position, unit in enumerate(text):
+        if unit not in CODES:
+            raise Refused(6, position)
+        septets += CODES[unit]
+    return septets
+
+
+def units_of(septets):
+    """The text of septets, left to right."""
+    text = []
+    at = 0
+    while at < len(septets):
+        if septets[at] != ESCAPE:
+            text.append(MAIN[septets[at]])
+            at += 1
+        elif at + 1 == len(septets):
+            text.append(SPACE)
+            at += 1
+        else:
+            code = septets[at + 1]
+            if code == ESCAPE:
+                text.append(SPACE)
+            elif code in EXTENSION:
+                text.append(EXTENSION[code])
+            else:
+                text.append(MAIN[code])
+            at += 2
+    return text
+
+
+def old_units_of(septets):
+    """The text of an old page's septets: 11 and 1B are a space each, and there is no extension."""
+    return [SPACE if septet in (0x11, 0x1B) else MAIN[septet] for septet in septets]
+
+
+def check_septets(septets):
+    for position, septet in enumerate(septets):
+        if septet >= 128:
+            raise Refused(9, position)
+
+
+# ---------------------------------------------------------------------------------------------------------------------
+# Packing
+
+def octets_for(septet_count):
+    """7n/8 rounded up."""
+    return (7 * septet_count + 7) // 8
+
+
+def packed(septets):
+    """Bit i of septet k is bit 7k + i of the stream; octet j takes bits 8j to 8j + 7, lowest first."""
+    stream = 0
+    for k, septet in enumerate(septets):
+        stream |= septet << (7 * k)
+    return list(stream.to_bytes(octets_for(len(septets)), "little"))
+
+
+def unpacked(octets, septet_count):
+    """The first septets of the stream. Bits behind them are spare and ignored."""
+    stream = int.from_bytes(bytes(octets), "little")
+    return [(stream >> (7 * k)) & 127 for k in range(septet_count)]
+
+
+def ussd_padded(septets):
+    n = len(septets)
+    if n % 8 == 7:
+        return septets + [CR]
+    if n != 0 and n % 8 == 0 and septets[-1] == CR:
+        return septets + [CR]
+    return septets
+
+
+def broadcast_filled(septets):
+    page = [CR] * 93
+    page[:len(septets)] = septets
+    return page
+
+
+def packed_for(service, septets):
+    if service == USSD:
+        return packed(ussd_padded(septets))
+    if service == BROADCAST:
+        return packed(broadcast_filled(septets))
+    return packed(septets)
+
+
+def without_closing(elements, filling):
+    end = len(elements)
+    while end > 0 and elements[end - 1] == filling:
+        end -= 1
+    return elements[:end]
+
+
+def unpacked_for(service, octets, count):
+    if service == SMS:
+        return unpacked(octets, count)
+    if service == USSD:
+        m = len(octets)
+        septets = unpacked(octets, 8 * m // 7)
+        if m != 0 and m % 7 == 0 and septets[-1] == CR:
+            return septets[:-1]
+        return septets
+    if service == BROADCAST:
+        return without_closing(unpacked(octets, 93), CR)
+    return without_closing(unpacked(octets, 93), 0)
+
+
+def ucs2_octets(service, text):
+    """Two octets a unit, high octet first. A broadcast page is filled up with 000D."""
+    if service == BROADCAST:
+        text = text + [CR] * (41 - len(text))
+    octets = []
+    for unit in text:
+        octets += [unit >> 8, unit & 255]
+    return octets
+
+
+def ucs2_units(service, octets):
+    text = [256 * octets[at] + octets[at + 1] for at in range(0, len(octets), 2)]
+    if service == BROADCAST:
+        return without_closing(text, CR)
+    return text
+
+
+# ---------------------------------------------------------------------------------------------------------------------
+# Refusals
+
+def check_octets(service, alphabet, octets, count):
+    """Refusal 4: octets that do not fit the service or the count, and odd UCS2 octets."""
+    m = len(octets)
+    if service == SMS:
+        if alphabet == UCS2:
+            fits = m == count and m <= 140 and m % 2 == 0
+        else:
+            fits = count <= 160 and m == octets_for(count)
+    else:
+        fits = count == 0 and (m == OCTETS[service] if service in EXACT else m <= OCTETS[service])
+        if alphabet == UCS2 and m % 2 != 0:
+            fits = False
+    if not fits:
+        raise Refused(4)
+
+
+def check_size(length, size):
+    if length > size:
+        raise Refused(5)
+
+
+def store(result, out):
+    """Refusal 7, or the result at the front of the lent buffer. Answers how many elements were written."""
+    if len(out) < len(result):
+        raise Refused(7)
+    for position, element in enumerate(result):
+        out[position] = element
+    return len(result)
+
+
+# ---------------------------------------------------------------------------------------------------------------------
+# The calls. Each does its tests in the order of document 01.
+
+def read_coding(service, coding):
+    """Only 2, for an old page."""
+    return {"reading": reading_of(service, coding)}
+
+
+def write_coding(service, reading):
+    """Only 8."""
+    return {"coding": octet_of(service, reading)}
+
+
+def holds_text(reading):
+    """1, 2, 3."""
+    return {"holds": text_of(reading)}
+
+
+def pack(service, septets, out):
+    """8 (old page), 9, 5, 7."""
+    if service == OLD:
+        raise Refused(8)
+    check_septets(septets)
+    check_size(len(septets), SEPTETS[service])
+    written = store(packed_for(service, septets), out)
+    return {"written": written, "count": len(septets) if service == SMS else 0}
+
+
+def unpack(service, count, octets, out):
+    """4, 7."""
+    check_octets(service, SEVEN, octets, count)
+    return {"written": store(unpacked_for(service, octets, count), out)}
+
+
+def text_to_septets(text, out):
+    """6, 7."""
+    return {"written": store(septets_of(text), out)}
+
+
+def septets_to_text(septets, out):
+    """9, 7."""
+    check_septets(septets)
+    return {"written": store(units_of(septets), out)}
+
+
+def read_message(service, coding, count, octets, out):
+    """1, 2, 3, 4, 7. The old page's own 2 stands in the place of 2: its coding holds no other refusal."""
+    reading = reading_of(service, coding)
+    alphabet = text_of(reading)
+    check_octets(service, alphabet, octets, count)
+    if alphabet == UCS2:
+        text = ucs2_units(service, octets)
+    elif service == OLD:
+        text = old_units_of(unpacked_for(service, octets, count))
+    else:
+        text = units_of(unpacked_for(service, octets, count))
+    return {"written": store(text, out), "reading": reading}
+
+
+def write_message(service, reading, text, out):
+    """8, 1, 2, 3, 6, 5, 7."""
+    coding = octet_of(service, reading)
+    if text_of(reading) == UCS2:
+        check_size(len(text), UNITS[service])
+        octets = ucs2_octets(service, text)
+        count = len(octets)
+    else:
+        septets = septets_of(text)
+        check_size(len(septets), SEPTETS[service])
+        octets = packed_for(service, septets)
+        count = len(septets)
+    written = store(octets, out)
+    return {"written": written, "count": count if service == SMS else 0, "coding": coding}
