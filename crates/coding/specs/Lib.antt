@@ -3,4 +3,5 @@ pub mod OctetRead
 pub mod Numbers
 pub mod OctetWritten
 pub mod Holding
+pub mod Answers
 pub mod Inner

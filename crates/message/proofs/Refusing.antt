@@ -1,7 +1,8 @@
 -- Demand 1: every public call answers on every input; a refusal carries its number from document 01, reports nothing written, and leaves each
--- lent buffer with the contents it came with. One lemma for each call that fills a buffer. (No call asks anything of its caller: no public
--- contract has a `requires`, which check/contracts.py reads off the source. The other calls lend nothing and report nothing written.)
+-- lent buffer with the contents it came with. One lemma for each call that can refuse. (No call asks anything of its caller: no public
+-- contract has a `requires`, which check/contracts.py reads off the source.)
 -- Assumes nothing.
+--   read-octet-refuses, write-octet-refuses, holds-refuses
 --   text-to-septets-refuses, septets-to-text-refuses, pack-refuses, unpack-refuses, units-to-octets-refuses, octets-to-units-refuses
 --   read-message-refuses, write-message-refuses
 -- septets-to-text-refuses is of both septets_to_text and old_page_to_text: it holds whatever text the septets read as.
@@ -19,7 +20,14 @@ use Rattle.words.specs.Lists.{laid}
 use Rattle.words.specs.Judging.{Rule, Verdict, refused, accepted, verdict, settle}
 use Rattle.words.proofs.Judging.{settle-told}
 use Rattle.coding.specs.declared.Reading.{Reading}
+use Rattle.coding.specs.declared.OctetRead.the-variants as octet-read
+use Rattle.coding.specs.declared.OctetWritten.the-variants as octet-written
+use Rattle.coding.specs.declared.Held.the-variants as held
 use Rattle.coding.specs.Readings.{unmentioned}
+use Rattle.coding.specs.OctetRead.{octetReads}
+use Rattle.coding.specs.OctetWritten.{octetWrites}
+use Rattle.coding.specs.Holding.{holdsText}
+use Rattle.coding.specs.Answers.{readNumber as octetReadNumber, readPosition as octetReadPosition, readReading as octetReadReading, writtenNumber, writtenPosition, writtenOctet, heldNumber, heldPosition}
 use Rattle.alphabet.specs.Writing.{septetsOf, septetsRules, septetsAnswers, septetsLeaves}
 use Rattle.alphabet.specs.Reading.{textRules, textAnswers, textLeaves}
 use Rattle.packing.specs.declared.Packed.{Packed}
@@ -33,6 +41,17 @@ use Rattle.message.specs.MessageRead.{readAnswers, readLeaves}
 use Rattle.message.specs.MessageWritten.{writeAnswers, writeLeaves}
 use Rattle.message.specs.Reports.{readNumber, readPosition, readWritten, readReading, writeNumber, writePosition, writeWritten, writeCount, writeCoding}
 use Rattle.message.proofs.Accepting.{read-verdict, write-verdict}
+
+pub read-octet-refuses : (service : Service) (o : ℕ) (q : Refusal) → octetReads service o ≡ octet-read.Refused q
+    → (octetReadNumber (octetReads service o) ≡ numberOf q) × (octetReadPosition (octetReads service o) ≡ positionOf q) × (octetReadReading (octetReads service o) ≡ unmentioned)
+read-octet-refuses service o q e = (ap octetReadNumber e, ap octetReadPosition e, ap octetReadReading e)
+
+pub write-octet-refuses : (service : Service) (r : Reading) (q : Refusal) → octetWrites service r ≡ octet-written.Refused q
+    → (writtenNumber (octetWrites service r) ≡ numberOf q) × (writtenPosition (octetWrites service r) ≡ positionOf q) × (writtenOctet (octetWrites service r) ≡ 0)
+write-octet-refuses service r q e = (ap writtenNumber e, ap writtenPosition e, ap writtenOctet e)
+
+pub holds-refuses : (r : Reading) (q : Refusal) → holdsText r ≡ held.Refused q → (heldNumber (holdsText r) ≡ numberOf q) × (heldPosition (holdsText r) ≡ positionOf q)
+holds-refuses r q e = (ap heldNumber e, ap heldPosition e)
 
 -- a refused call leaves what the buffer came with
 kept : {A : Type 0} (v : Verdict) (q : Refusal) (out x : A) → v ≡ refused q → settle v (λ r. out) x ≡ out
