@@ -16,7 +16,7 @@ use Rattle.words.specs.declared.Refusal.the-variants.{Compressed, NoText, Prefi
 use Rattle.words.specs.Sizes.{isOldPage}
 use Rattle.words.specs.Lists.{laid}
 use Rattle.words.specs.Judging.{when, Verdict, refused, accepted, verdict}
-use Rattle.words.proofs.Judging.{accepted-rule, accepted-parts, accepted-both, settle-told}
+use Rattle.words.proofs.Judging.{accepted-rule, accepted-parts, accepted-both, settle-told, settle-given}
 use Rattle.coding.specs.declared.Reading.{Reading}
 use Rattle.coding.specs.declared.OctetRead.the-variants as octet-read
 use Rattle.coding.specs.declared.OctetWritten.the-variants as octet-written
@@ -31,7 +31,7 @@ use Rattle.message.specs.declared.MessageWritten.{MessageWritten}
 use Rattle.message.specs.declared.MessageWritten.the-variants as written
 use Rattle.message.specs.MessageRead.{fitsReading, textOfMessage, lengthRules, readRules, readAnswers, readLeaves}
 use Rattle.message.specs.MessageWritten.{notCodable, overSize, messageOctets, messageCount, sizeRules, writeRules, writeAnswers, writeLeaves}
-use Rattle.message.proofs.Steps.{octet-verdict, coding-verdict, settle-given, read-given}
+use Rattle.message.proofs.Steps.{octet-verdict, coding-verdict, read-given}
 
 -- a reading that holds text: not compressed, neither 8-bit nor WAP, no prefix mark
 pub record HoldsText (r : Reading) : Type 0 where

@@ -2,15 +2,15 @@
 -- packed from it is the definition's.
 -- Assumes nothing.
 use mathlib.Core.Path.{_≡_, refl, ap, ap₂, _∙_, sym, subst}
-use mathlib.Core.Bool.{Bool, true, false, _&&_}
+use mathlib.Core.Bool.{Bool, true, false}
 use mathlib.Core.List.{List}
 use Prim.Native.Nat.{ℕ, _≤_, _<_}
 use native.Mathlib.Decide.{decLe}
 use native.Mathlib.Omega.{arith}
-use lib.Dec.{T, leb, eqb, leb→le, lit≤}
+use lib.Dec.{leb, eqb, lit≤}
 use lib.ListN.{length, getD, take}
 use lib.Seq.{take-append-le, take-length}
-use borrow.Author.Tests.{lt-ltb, le-ltb, lt-leb}
+use borrow.Author.Tests.{lt-ltb, le-ltb, lt-leb, leb-true}
 use Rattle.words.specs.declared.Service.{Service}
 use Rattle.words.specs.declared.Service.the-variants.{ShortMessage, Broadcast, Ussd, OldPage}
 use Rattle.words.specs.declared.Refusal.{Refusal}
@@ -23,6 +23,7 @@ use Rattle.words.specs.Judging.{Verdict, refused, accepted, verdict, settle}
 use Rattle.words.proofs.Below.{Below}
 use Rattle.words.proofs.Closing.{closing-front, closing-length}
 use Rattle.words.proofs.Laid.{laid-length}
+use Rattle.words.proofs.Tests.{and-left}
 use Rattle.words.proofs.Places.{place-none}
 use Rattle.alphabet.specs.Writing.{septetsOf as septetsOf′, firstUnlisted, septetsRules, septetsAnswers, septetsLeaves}
 use Rattle.alphabet.specs.Reading.{textRules, textAnswers, textLeaves}
@@ -57,13 +58,9 @@ septets-run OldPage count o h = closed-run 0 o
 pub read-below : (service : Service) (count : ℕ) (o : List ℕ) → Below 256 o → Below 128 (septetsOf service count o)
 read-below service count o h = subst (Below 128) (sym (septets-run service count o h)) (unpacked-below (length (septetsOf service count o)) o h)
 
-and-left : (a b : Bool) → (a && b) ≡ true → T a
-and-left true b e = tt
-and-left false b e = subst T (sym e) tt
-
 pub read-most : (service : Service) (count : ℕ) (o : List ℕ) → Below 256 o → septetsFit service (length o) count ≡ true → length (septetsOf service count o) ≤ 182
 unfolding pageSeptets oldPageSeptets octetsFor
-read-most ShortMessage count o h e = omega (arith, unpacked-length count o, leb→le count 160 (and-left (leb count 160) (eqb (length o) (octetsFor count)) e))
+read-most ShortMessage count o h e = omega (arith, unpacked-length count o, leb-true count 160 (and-left (leb count 160) (eqb (length o) (octetsFor count)) e))
 read-most Broadcast count o h e = omega (arith, closing-length 13 (unpacked 93 o), unpacked-length 93 o)
 read-most Ussd count o h e = omega (arith, kept-octets o, fit-ussd (length o) count e)
 read-most OldPage count o h e = omega (arith, closing-length 0 (unpacked 93 o), unpacked-length 93 o)

@@ -13,7 +13,7 @@ use Rattle.words.specs.declared.Filled.the-variants as filled
 use Rattle.words.specs.Sizes.{isOldPage}
 use Rattle.words.specs.Lists.{laid}
 use Rattle.words.specs.Judging.{Rule, Verdict, refused, accepted, verdict, settle}
-use Rattle.words.proofs.Judging.{verdict-refused-first, verdict-accepted-first, settle-told}
+use Rattle.words.proofs.Judging.{verdict-refused-first, verdict-accepted-first, settle-told, settle-given}
 use Rattle.coding.specs.declared.Reading.{Reading}
 use Rattle.coding.specs.declared.OctetRead.{OctetRead}
 use Rattle.coding.specs.declared.OctetRead.the-variants as octet-read
@@ -63,10 +63,6 @@ held-verdict r a e = settle-told heldTold held.Refused (cond (isUcs2 (r .alphabe
     either : (b : Bool) → heldTold (cond b held.Units held.Septets) ≡ accepted
     either true = refl
     either false = refl
-
--- an answer that settles by an accepted verdict is the one given
-pub settle-given : {A : Type 0} (v : Verdict) (refuse : Refusal → A) (given : A) → v ≡ accepted → settle v refuse given ≡ given
-settle-given v refuse given e = ap (λ (w : Verdict). settle w refuse given) e
 
 pub read-given : (s : Service) (o : ℕ) (r : Reading) → octet-read.Done r ≡ octetReads s o → readUnder s o ≡ r
 unfolding octetReads

@@ -54,6 +54,10 @@ pub settle-told : {A : Type 0} (told : A → Verdict) (refuse : Refusal → A) (
 settle-told told refuse given p q (refused r) a e = sym (p r) ∙ ap told (sym e)
 settle-told told refuse given p q accepted a e = sym q ∙ ap told (sym e)
 
+-- an accepted verdict settles into what is given
+pub settle-given : {A : Type 0} (v : Verdict) (refuse : Refusal → A) (given : A) → v ≡ accepted → settle v refuse given ≡ given
+settle-given v refuse given e = ap (λ (w : Verdict). settle w refuse given) e
+
 pub verdict-none : verdict [] ≡ accepted
 unfolding verdict
 verdict-none = refl
