@@ -1,4 +1,5 @@
-"""A second implementation of the base of Wikuay, written from document 01 alone.
+"""A second implementation of the base of Wikuay, written from document 01 and the settled readings of it,
+without sight of the Rattle code.
 
 It follows document 01 section by section and does everything in the plainest way. The nine calls at the end are what
 the cases run. Each stores its result in a buffer that the caller lends, a list, and answers with a dictionary. A call
