@@ -333,14 +333,14 @@ impl Reading {
     }
 }
 
-const ALPHABETS: [Alphabet; 4] = [
+pub const ALPHABETS: [Alphabet; 4] = [
     Alphabet::SevenBit,
     Alphabet::EightBit,
     Alphabet::Ucs2,
     Alphabet::Wap,
 ];
 
-const CLASSES: [Class; 7] = [
+pub const CLASSES: [Class; 7] = [
     Class::Unset,
     Class::Class0,
     Class::Class1,
@@ -350,7 +350,7 @@ const CLASSES: [Class; 7] = [
     Class::User2,
 ];
 
-const LANGUAGES: [Language; 17] = [
+pub const LANGUAGES: [Language; 17] = [
     Language::German,
     Language::English,
     Language::Italian,
@@ -370,7 +370,7 @@ const LANGUAGES: [Language; 17] = [
     Language::Czech,
 ];
 
-const KINDS: [Kind; 4] = [Kind::Voicemail, Kind::Fax, Kind::Mail, Kind::Other];
+pub const KINDS: [Kind; 4] = [Kind::Voicemail, Kind::Fax, Kind::Mail, Kind::Other];
 
 fn notice_at(n: u32) -> Notice
     ensures { λ r. ⌜ r ≡ noticeAt n ⌝ }

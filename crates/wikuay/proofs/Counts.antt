@@ -1,0 +1,72 @@
+-- No length count is over 160, so that it crosses to C in 32 bits: an accepted text is not over its service's size.
+-- Assumes nothing.
+use mathlib.Core.Path.{_≡_, refl}
+use mathlib.Core.Bool.{Bool, true, false, cond}
+use mathlib.Core.List.{List, [], _∷_, _++_}
+use Prim.Native.Nat.{ℕ, _≤_}
+use native.Mathlib.Omega.{arith}
+use lib.Dec.{ltb, leb}
+use lib.ListN.{length}
+use borrow.Author.Tests.{ltb-false}
+use Rattle.words.specs.declared.Service.{Service}
+use Rattle.words.specs.declared.Service.the-variants.{ShortMessage, Broadcast, Ussd, OldPage}
+use Rattle.words.specs.declared.Refusal.the-variants.{Unwritable, NoSeptet, TooLong, NoRoom, Unlisted}
+use Rattle.words.specs.Sizes.{mostSeptets, mostUnits, isOldPage}
+use Rattle.words.specs.Lists.{firstPlace}
+use Rattle.words.specs.Judging.{when, Verdict, refused, accepted, verdict, settle}
+use Rattle.words.proofs.Judging.{accepted-rule, accepted-parts}
+use Rattle.coding.specs.declared.Reading.{Reading}
+use Rattle.coding.specs.Holding.{isUcs2, textRules}
+use Rattle.coding.specs.OctetWritten.{smallest, writeRules as codingRules}
+use Rattle.alphabet.specs.Writing.{septetsOf, firstUnlisted}
+use Rattle.stream.proofs.UnitOctets.{unit-octets-length}
+use Rattle.packing.specs.declared.Packed.the-variants as packed
+use Rattle.packing.specs.Answers.{packedCount}
+use Rattle.packing.specs.SeptetCalls.{octetsOf, countOf, packRules, packAnswers}
+use Rattle.packing.specs.UnitCalls.{unitCountOf}
+use Rattle.message.specs.declared.MessageWritten.the-variants as written
+use Rattle.message.specs.MessageWritten.{notCodable, overSize, messageOctets, messageCount, sizeRules, writeRules, writeAnswers}
+use Rattle.message.specs.Reports.{writeCount}
+
+septets-count : (service : Service) (s : List ℕ) → ltb (mostSeptets service) (length s) ≡ false → countOf service s ≤ 160
+septets-count ShortMessage s e = ltb-false _ _ e
+septets-count Broadcast s e = omega arith
+septets-count Ussd s e = omega arith
+septets-count OldPage s e = omega arith
+
+units-count : (service : Service) (us : List ℕ) → ltb (mostUnits service) (length us) ≡ false → unitCountOf service us ≤ 160
+units-count ShortMessage us e = omega (arith, ltb-false 70 (length us) e, unit-octets-length us)
+units-count Broadcast us e = omega arith
+units-count Ussd us e = omega arith
+units-count OldPage us e = omega arith
+
+text-count : (ucs2 : Bool) (service : Service) (us : List ℕ)
+    → cond ucs2 (ltb (mostUnits service) (length us)) (ltb (mostSeptets service) (length (septetsOf us))) ≡ false
+    → cond ucs2 (unitCountOf service us) (countOf service (septetsOf us)) ≤ 160
+text-count true service us e = units-count service us e
+text-count false service us e = septets-count service (septetsOf us) e
+
+-- a count that is given only where the verdict is accepted
+packed-within : (v : Verdict) (octets count : ℕ) → (v ≡ accepted → count ≤ 160) → packedCount (settle v packed.Refused (packed.Done octets count)) ≤ 160
+packed-within (refused q) octets count h = omega arith
+packed-within accepted octets count h = h refl
+
+written-within : (v : Verdict) (octets count coding : ℕ) → (v ≡ accepted → count ≤ 160) → writeCount (settle v written.Refused (written.Done octets count coding)) ≤ 160
+written-within (refused q) octets count coding h = omega arith
+written-within accepted octets count coding h = h refl
+
+pub pack-count : (service : Service) (s : List ℕ) (room : ℕ) → packedCount (packAnswers service s room) ≤ 160
+unfolding packAnswers packRules
+pack-count service s room =
+    packed-within (verdict (packRules service s room)) _ _ (λ e.
+    let two = accepted-rule (isOldPage service) Unwritable _ e .1 in
+    let three = accepted-rule (ltb (firstPlace (leb 128) s) (length s)) (NoSeptet (firstPlace (leb 128) s)) _ two .1 in
+    septets-count service s (accepted-rule (ltb (mostSeptets service) (length s)) TooLong _ three .0))
+
+pub write-count : (service : Service) (r : Reading) (us : List ℕ) (room : ℕ) → writeCount (writeAnswers service r us room) ≤ 160
+unfolding writeAnswers writeRules sizeRules
+write-count service r us room =
+    written-within (verdict (writeRules service r us room)) _ _ _ (λ e.
+    let sized = accepted-parts (textRules r) (sizeRules service r us room) (accepted-parts (codingRules service r) _ e .1) .1 in
+    let two = accepted-rule (notCodable r us) (Unlisted (firstUnlisted us)) _ sized .1 in
+    text-count (isUcs2 (r .alphabet)) service us (accepted-rule (overSize service r us) TooLong _ two .0))

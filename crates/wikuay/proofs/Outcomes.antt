@@ -1,0 +1,68 @@
+-- Any two outcomes that the contract of an exported call allows coincide: each contract is an equation.
+-- Assumes nothing.
+use mathlib.Core.Path.{_∙_, sym}
+use denote.Ref.{now}
+use Rattle.words.proofs.Unique.{OneAnswer, OneBuffer}
+use Rattle.wikuay.proofs.wikuay_read_coding.Kinds as read-coding-kinds
+use Rattle.wikuay.proofs.wikuay_read_coding.Reads as read-coding
+use Rattle.wikuay.proofs.wikuay_write_coding.Kinds as write-coding-kinds
+use Rattle.wikuay.proofs.wikuay_write_coding.Reads as write-coding
+use Rattle.wikuay.proofs.wikuay_holds_text.Kinds as holds-text-kinds
+use Rattle.wikuay.proofs.wikuay_holds_text.Reads as holds-text
+use Rattle.wikuay.proofs.wikuay_pack.Kinds as pack-kinds
+use Rattle.wikuay.proofs.wikuay_pack.Reads as pack
+use Rattle.wikuay.proofs.wikuay_unpack.Kinds as unpack-kinds
+use Rattle.wikuay.proofs.wikuay_unpack.Reads as unpack
+use Rattle.wikuay.proofs.wikuay_text_to_septets.Kinds as text-to-septets-kinds
+use Rattle.wikuay.proofs.wikuay_text_to_septets.Reads as text-to-septets
+use Rattle.wikuay.proofs.wikuay_septets_to_text.Kinds as septets-to-text-kinds
+use Rattle.wikuay.proofs.wikuay_septets_to_text.Reads as septets-to-text
+use Rattle.wikuay.proofs.wikuay_read_message.Kinds as read-message-kinds
+use Rattle.wikuay.proofs.wikuay_read_message.Reads as read-message
+use Rattle.wikuay.proofs.wikuay_write_message.Kinds as write-message-kinds
+use Rattle.wikuay.proofs.wikuay_write_message.Reads as write-message
+
+pub wikuay-read-coding-unique : OneAnswer read-coding-kinds.ps read-coding-kinds.r read-coding.Post
+wikuay-read-coding-unique κs a x y u v p q = p ∙ sym q
+
+pub wikuay-write-coding-unique : OneAnswer write-coding-kinds.ps write-coding-kinds.r write-coding.Post
+wikuay-write-coding-unique κs a x y u v p q = p ∙ sym q
+
+pub wikuay-holds-text-unique : OneAnswer holds-text-kinds.ps holds-text-kinds.r holds-text.Post
+wikuay-holds-text-unique κs a x y u v p q = p ∙ sym q
+
+pub wikuay-pack-unique : OneAnswer pack-kinds.ps pack-kinds.r pack.Post
+wikuay-pack-unique κs a x y u v p q = p .0 ∙ sym (q .0)
+
+pub wikuay-pack-buffer-unique : OneBuffer pack-kinds.ps pack-kinds.r (λ κs u. now (u .1 .1 .0)) pack.Post
+wikuay-pack-buffer-unique κs a x y u v p q = p .1 ∙ sym (q .1)
+
+pub wikuay-unpack-unique : OneAnswer unpack-kinds.ps unpack-kinds.r unpack.Post
+wikuay-unpack-unique κs a x y u v p q = p .0 ∙ sym (q .0)
+
+pub wikuay-unpack-buffer-unique : OneBuffer unpack-kinds.ps unpack-kinds.r (λ κs u. now (u .1 .1 .1 .0)) unpack.Post
+wikuay-unpack-buffer-unique κs a x y u v p q = p .1 ∙ sym (q .1)
+
+pub wikuay-text-to-septets-unique : OneAnswer text-to-septets-kinds.ps text-to-septets-kinds.r text-to-septets.Post
+wikuay-text-to-septets-unique κs a x y u v p q = p .0 ∙ sym (q .0)
+
+pub wikuay-text-to-septets-buffer-unique : OneBuffer text-to-septets-kinds.ps text-to-septets-kinds.r (λ κs u. now (u .1 .0)) text-to-septets.Post
+wikuay-text-to-septets-buffer-unique κs a x y u v p q = p .1 ∙ sym (q .1)
+
+pub wikuay-septets-to-text-unique : OneAnswer septets-to-text-kinds.ps septets-to-text-kinds.r septets-to-text.Post
+wikuay-septets-to-text-unique κs a x y u v p q = p .0 ∙ sym (q .0)
+
+pub wikuay-septets-to-text-buffer-unique : OneBuffer septets-to-text-kinds.ps septets-to-text-kinds.r (λ κs u. now (u .1 .0)) septets-to-text.Post
+wikuay-septets-to-text-buffer-unique κs a x y u v p q = p .1 ∙ sym (q .1)
+
+pub wikuay-read-message-unique : OneAnswer read-message-kinds.ps read-message-kinds.r read-message.Post
+wikuay-read-message-unique κs a x y u v p q = p .0 ∙ sym (q .0)
+
+pub wikuay-read-message-buffer-unique : OneBuffer read-message-kinds.ps read-message-kinds.r (λ κs u. now (u .1 .1 .1 .1 .0)) read-message.Post
+wikuay-read-message-buffer-unique κs a x y u v p q = p .1 ∙ sym (q .1)
+
+pub wikuay-write-message-unique : OneAnswer write-message-kinds.ps write-message-kinds.r write-message.Post
+wikuay-write-message-unique κs a x y u v p q = p .0 ∙ sym (q .0)
+
+pub wikuay-write-message-buffer-unique : OneBuffer write-message-kinds.ps write-message-kinds.r (λ κs u. now (u .1 .1 .1 .0)) write-message.Post
+wikuay-write-message-buffer-unique κs a x y u v p q = p .1 ∙ sym (q .1)

@@ -1,0 +1,19 @@
+-- `refused` meets its contract: the number and the position are the refusal's own. Assumes nothing.
+use borrow.Author.Needs.{needs}
+use Rattle.wikuay.proofs.answers.refused.Statement.{statement}
+use Rattle.wikuay.proofs.answers.refused.Tie as tie
+
+number-requires : tie.Need-number-requires
+number-requires c κs = search needs
+
+cast-t3 : tie.Need-cast-t3
+cast-t3 c = search needs
+
+position-requires : tie.Need-position-requires
+position-requires c κs = search needs
+
+returns : tie.Need-returns
+returns c = simp (c .position .ensures, c .before .number .ensures)
+
+pub refused-spec : {M : Type 1} → statement M
+refused-spec = tie.close (tie.spec number-requires cast-t3 position-requires returns)

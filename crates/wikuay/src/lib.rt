@@ -1,0 +1,166 @@
+// The calls that C links: the library's own under plain names, with numbers for services, readings and refusals. No rule lives here.
+// A number that names no service is refused 8 before all else, and so is a reading with a number that names nothing.
+ghost use mathlib.Core.Path.{_≡_};
+ghost use lib.ListN.{length};
+ghost use Rattle.wikuay.specs.Calls.{readCodingGives, writeCodingGives, holdsTextGives, packGives, packKeeps, unpackGives, unpackKeeps, textToSeptetsGives, textToSeptetsKeeps, septetsToTextGives, septetsToTextKeeps, readMessageGives, readMessageKeeps, writeMessageGives, writeMessageKeeps};
+use names::NamedReading;
+use names::NamedService;
+use words::Refusal;
+
+mod answers;
+mod names;
+
+// A reading in numbers, as C hands it over.
+#[repr(C)]
+pub struct ReadingNumbers {
+    pub alphabet: u8,
+    pub compressed: u8,
+    pub class: u8,
+    pub language: u8,
+    pub deletion: u8,
+    pub prefix: u8,
+    pub reserved: u8,
+    pub notice: u16,
+}
+
+// What a call answers that writes, or that fills a lent buffer.
+#[repr(C)]
+pub struct Answer {
+    pub refusal: u32,
+    pub count: u32,
+    pub position: usize,
+    pub written: usize,
+    pub coding: u8,
+}
+
+// What a call answers that reads a coding octet.
+#[repr(C)]
+pub struct ReadAnswer {
+    pub refusal: u32,
+    pub position: usize,
+    pub written: usize,
+    pub holds: u32,
+    pub reading: ReadingNumbers,
+}
+
+// What a coding octet says under a service. Refuses 8, 2.
+#[no_mangle]
+pub extern "C" fn wikuay_read_coding(service: u32, coding: u8) -> ReadAnswer
+    ensures answer { λ r. ⌜ r ≡ readCodingGives service coding ⌝ }
+{
+    match names::service(service) {
+        NamedService::Named(service) => answers::octet_read(coding::read_octet(service, coding)),
+        NamedService::Unnamed => answers::read_refused(Refusal::Unwritable),
+    }
+}
+
+// The smallest coding octet that says what the reading does. Refuses 8.
+#[no_mangle]
+pub extern "C" fn wikuay_write_coding(service: u32, reading: ReadingNumbers) -> Answer
+    ensures answer { λ r. ⌜ r ≡ writeCodingGives service reading ⌝ }
+{
+    match names::service(service) {
+        NamedService::Named(service) => match names::reading(reading) {
+            NamedReading::Named(reading) => answers::octet_written(reading.write(service)),
+            NamedReading::Unnamed => answers::refused(Refusal::Unwritable),
+        },
+        NamedService::Unnamed => answers::refused(Refusal::Unwritable),
+    }
+}
+
+// Which text a reading holds. Refuses 8, 1, 2, 3.
+#[no_mangle]
+pub extern "C" fn wikuay_holds_text(reading: ReadingNumbers) -> ReadAnswer
+    ensures answer { λ r. ⌜ r ≡ holdsTextGives reading ⌝ }
+{
+    match names::reading(reading) {
+        NamedReading::Named(reading) => answers::held(reading.holds()),
+        NamedReading::Unnamed => answers::read_refused(Refusal::Unwritable),
+    }
+}
+
+// Packs septets. Refuses 8, 9, 5, 7, and then leaves the buffer as it came; a success touches only the written front.
+#[no_mangle]
+pub extern "C" fn wikuay_pack(service: u32, septets: &[u8], out: &mut [u8]) -> Answer
+    ensures answer { λ r. ⌜ r ≡ packGives service (now (septets .entry)) (length (now (out .entry))) ⌝ }
+    ensures buffer { λ r. ⌜ now (out .exit) ≡ packKeeps service (now (septets .entry)) (now (out .entry)) ⌝ }
+{
+    match names::service(service) {
+        NamedService::Named(service) => answers::packed(packing::pack(service, septets, out)),
+        NamedService::Unnamed => answers::refused(Refusal::Unwritable),
+    }
+}
+
+// Unpacks octets into septets. Refuses 8, 4, 7, and then leaves the buffer as it came; a success touches only the written front.
+#[no_mangle]
+pub extern "C" fn wikuay_unpack(service: u32, octets: &[u8], count: usize, out: &mut [u8]) -> Answer
+    ensures answer { λ r. ⌜ r ≡ unpackGives service (now (octets .entry)) count (length (now (out .entry))) ⌝ }
+    ensures buffer { λ r. ⌜ now (out .exit) ≡ unpackKeeps service (now (octets .entry)) count (now (out .entry)) ⌝ }
+{
+    match names::service(service) {
+        NamedService::Named(service) => {
+            answers::filled(packing::unpack(service, octets, count, out))
+        }
+        NamedService::Unnamed => answers::refused(Refusal::Unwritable),
+    }
+}
+
+// Text to septets. Refuses 6, 7, and then leaves the buffer as it came; a success touches only the written front.
+#[no_mangle]
+pub extern "C" fn wikuay_text_to_septets(text: &[u16], out: &mut [u8]) -> Answer
+    ensures answer { λ r. ⌜ r ≡ textToSeptetsGives (now (text .entry)) (length (now (out .entry))) ⌝ }
+    ensures buffer { λ r. ⌜ now (out .exit) ≡ textToSeptetsKeeps (now (text .entry)) (now (out .entry)) ⌝ }
+{
+    answers::filled(alphabet::text_to_septets(text, out))
+}
+
+// Septets to text. Refuses 9, 7, and then leaves the buffer as it came; a success touches only the written front.
+#[no_mangle]
+pub extern "C" fn wikuay_septets_to_text(septets: &[u8], out: &mut [u16]) -> Answer
+    ensures answer { λ r. ⌜ r ≡ septetsToTextGives (now (septets .entry)) (length (now (out .entry))) ⌝ }
+    ensures buffer { λ r. ⌜ now (out .exit) ≡ septetsToTextKeeps (now (septets .entry)) (now (out .entry)) ⌝ }
+{
+    answers::filled(alphabet::septets_to_text(septets, out))
+}
+
+// Reads a message. Refuses 8, 1, 2, 3, 4, 7, and then leaves the buffer as it came; a success touches only the written front.
+#[no_mangle]
+pub extern "C" fn wikuay_read_message(
+    service: u32,
+    coding: u8,
+    count: usize,
+    octets: &[u8],
+    out: &mut [u16],
+) -> ReadAnswer
+    ensures answer { λ r. ⌜ r ≡ readMessageGives service coding count (now (octets .entry)) (length (now (out .entry))) ⌝ }
+    ensures buffer { λ r. ⌜ now (out .exit) ≡ readMessageKeeps service coding count (now (octets .entry)) (now (out .entry)) ⌝ }
+{
+    match names::service(service) {
+        NamedService::Named(service) => {
+            answers::message_read(message::read_message(service, coding, count, octets, out))
+        }
+        NamedService::Unnamed => answers::read_refused(Refusal::Unwritable),
+    }
+}
+
+// Writes a message. Refuses 8, 1, 2, 3, 6, 5, 7, and then leaves the buffer as it came; a success touches only the written front.
+#[no_mangle]
+pub extern "C" fn wikuay_write_message(
+    service: u32,
+    reading: ReadingNumbers,
+    text: &[u16],
+    out: &mut [u8],
+) -> Answer
+    ensures answer { λ r. ⌜ r ≡ writeMessageGives service reading (now (text .entry)) (length (now (out .entry))) ⌝ }
+    ensures buffer { λ r. ⌜ now (out .exit) ≡ writeMessageKeeps service reading (now (text .entry)) (now (out .entry)) ⌝ }
+{
+    match names::service(service) {
+        NamedService::Named(service) => match names::reading(reading) {
+            NamedReading::Named(reading) => {
+                answers::message_written(message::write_message(service, reading, text, out))
+            }
+            NamedReading::Unnamed => answers::refused(Refusal::Unwritable),
+        },
+        NamedService::Unnamed => answers::refused(Refusal::Unwritable),
+    }
+}

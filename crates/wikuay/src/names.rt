@@ -1,0 +1,186 @@
+// Numbers that cross from C, and what they name: a service, and the fields of a reading.
+ghost use mathlib.Core.Path.{_≡_};
+ghost use Prim.Native.Nat.{_<_};
+ghost use Rattle.wikuay.specs.Names.{namedService, namedNotice, namesFlags, namesFields, readingWith, namedReading, numbersOf};
+ghost use Rattle.coding.specs.Numbers.{flagNo};
+use crate::ReadingNumbers;
+use coding::Notice;
+use coding::Reading;
+use words::Service;
+
+// What a number says of a service.
+pub enum NamedService {
+    Named(Service),
+    Unnamed,
+}
+
+// What a number says of a waiting notice.
+pub enum NamedNotice {
+    Named(Notice),
+    Unnamed,
+}
+
+// What the numbers of its fields say of a reading.
+pub enum NamedReading {
+    Named(Reading),
+    Unnamed,
+}
+
+// The service with that number.
+pub(crate) fn service(number: u32) -> NamedService
+    ensures { λ r. ⌜ r ≡ namedService number ⌝ }
+{
+    if number == 0 {
+        return NamedService::Named(Service::ShortMessage);
+    }
+    if number == 1 {
+        return NamedService::Named(Service::Broadcast);
+    }
+    if number == 2 {
+        return NamedService::Named(Service::Ussd);
+    }
+    if number == 3 {
+        return NamedService::Named(Service::OldPage);
+    }
+    NamedService::Unnamed
+}
+
+// The notice with that number.
+fn notice(number: u16) -> NamedNotice
+    ensures { λ r. ⌜ r ≡ namedNotice number ⌝ }
+{
+    if number == 0 {
+        return NamedNotice::Named(Notice::Nothing);
+    }
+    let i = (number % 4) as usize;
+    let kinds = coding::KINDS;
+    let kind = kinds[i];
+    let group = number / 4;
+    if group == 4 {
+        return NamedNotice::Named(Notice::Discard {
+            active: false,
+            kind: kind,
+        });
+    }
+    if group == 6 {
+        return NamedNotice::Named(Notice::Discard {
+            active: true,
+            kind: kind,
+        });
+    }
+    if group == 8 {
+        return NamedNotice::Named(Notice::Store {
+            active: false,
+            kind: kind,
+        });
+    }
+    if group == 10 {
+        return NamedNotice::Named(Notice::Store {
+            active: true,
+            kind: kind,
+        });
+    }
+    NamedNotice::Unnamed
+}
+
+// Whether each flag has a number that names one.
+fn flags(numbers: ReadingNumbers) -> bool
+    ensures { λ r. ⌜ r ≡ namesFlags numbers ⌝ }
+{
+    if 2 <= numbers.compressed {
+        return false;
+    }
+    if 2 <= numbers.deletion {
+        return false;
+    }
+    if 2 <= numbers.prefix {
+        return false;
+    }
+    if 2 <= numbers.reserved {
+        return false;
+    }
+    true
+}
+
+// Whether each field but the notice has a number that names something.
+fn fields(numbers: ReadingNumbers) -> bool
+    ensures { λ r. ⌜ r ≡ namesFields numbers ⌝ }
+{
+    if 4 <= numbers.alphabet {
+        return false;
+    }
+    if 7 <= numbers.class {
+        return false;
+    }
+    if 17 <= numbers.language {
+        return false;
+    }
+    flags(numbers)
+}
+
+// The reading with these numbers and that notice.
+fn with(numbers: ReadingNumbers, notice: Notice) -> Reading
+    requires { ⌜ (numbers .alphabet < 4) × (numbers .class < 7) × (numbers .language < 17) ⌝ }
+    ensures { λ r. ⌜ r ≡ readingWith numbers notice ⌝ }
+{
+    let alphabet_no = numbers.alphabet as usize;
+    let alphabets = coding::ALPHABETS;
+    let alphabet = alphabets[alphabet_no];
+    let class_no = numbers.class as usize;
+    let classes = coding::CLASSES;
+    let class = classes[class_no];
+    let language_no = numbers.language as usize;
+    let languages = coding::LANGUAGES;
+    let language = languages[language_no];
+    Reading {
+        alphabet: alphabet,
+        compressed: numbers.compressed == 1,
+        class: class,
+        language: language,
+        deletion: numbers.deletion == 1,
+        notice: notice,
+        prefix: numbers.prefix == 1,
+        reserved: numbers.reserved == 1,
+    }
+}
+
+// The reading whose fields have these numbers.
+pub(crate) fn reading(numbers: ReadingNumbers) -> NamedReading
+    ensures { λ r. ⌜ r ≡ namedReading numbers ⌝ }
+{
+    if fields(numbers) {
+        match notice(numbers.notice) {
+            NamedNotice::Named(notice) => NamedReading::Named(with(numbers, notice)),
+            NamedNotice::Unnamed => NamedReading::Unnamed,
+        }
+    } else {
+        NamedReading::Unnamed
+    }
+}
+
+// The number of a flag.
+fn flag(b: bool) -> u8
+    ensures { λ r. ⌜ r ≡ flagNo b ⌝ }
+{
+    if b { 1 } else { 0 }
+}
+
+// The numbers of a reading's fields.
+pub(crate) fn numbers(reading: Reading) -> ReadingNumbers
+    ensures { λ r. ⌜ r ≡ numbersOf reading ⌝ }
+{
+    let alphabet = reading.alphabet;
+    let class = reading.class;
+    let language = reading.language;
+    let notice = reading.notice;
+    ReadingNumbers {
+        alphabet: alphabet.number(),
+        compressed: flag(reading.compressed),
+        class: class.number(),
+        language: language.number(),
+        deletion: flag(reading.deletion),
+        prefix: flag(reading.prefix),
+        reserved: flag(reading.reserved),
+        notice: notice.number(),
+    }
+}

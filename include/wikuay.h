@@ -1,0 +1,224 @@
+/*
+ * wikuay.h: the text that mobile networks carry, by 3GPP TS 23.038. C99 and C++, for x86-64 Linux.
+ *
+ * Link libwikuay.a. Nothing is allocated, kept or printed; every call returns, answers on every input and may run in
+ * any thread.
+ *
+ * The caller owes this, and nothing else:
+ * - A pointer is not NULL, also where its length is 0, is aligned, and is valid for that many elements.
+ * - The lent buffer `out` overlaps no input.
+ * - No length is over PTRDIFF_MAX octets.
+ *
+ * Lengths and positions count elements: octets, septets or units. A septet is an octet of 0 to 127. A unit is a
+ * native uint16_t of UCS2. A flag is a uint8_t of 0 or 1.
+ *
+ * An answer with refusal 0 is a success: the result is the first `written` elements of `out`, and the rest of `out` is
+ * as it came. Any other answer is a refusal: `out` is as it came, written, count, coding and holds are 0, and the
+ * reading is WIKUAY_PLAIN. Each call names its refusals in the order in which they are judged.
+ *
+ * Beside each call stand the clause of TS 23.038 and the theorems. They are proved of the code behind the call
+ * (crates/wikuay/proofs/Outcomes.antt: any two outcomes that the contract allows coincide). The contract itself stands
+ * above the call in crates/wikuay/src/lib.rt, and its definitions in crates/wikuay/specs/Calls.antt.
+ */
+#ifndef WIKUAY_H
+#define WIKUAY_H
+
+#include <stddef.h>
+#include <stdint.h>
+
+#ifdef __cplusplus
+extern "C" {
+#endif
+
+/* Services. Any other number is refused 8 before all else, in every call that takes a service. */
+#define WIKUAY_SHORT_MESSAGE 0
+#define WIKUAY_BROADCAST 1
+#define WIKUAY_USSD 2
+#define WIKUAY_OLD_PAGE 3 /* the broadcast page of 1991, which is read only */
+
+/* Refusals. */
+#define WIKUAY_REFUSED_COMPRESSED 1   /* compressed text */
+#define WIKUAY_REFUSED_NO_TEXT 2      /* the coding holds no text: 8-bit, WAP, an old page's alphabet not 0 */
+#define WIKUAY_REFUSED_PREFIXED 3     /* the coding has the prefix mark */
+#define WIKUAY_REFUSED_WRONG_LENGTH 4 /* octets do not fit the service or the count; UCS2 octets are odd */
+#define WIKUAY_REFUSED_TOO_LONG 5     /* text over the service's size */
+#define WIKUAY_REFUSED_UNLISTED 6     /* a unit is not in the alphabet; position: the first such unit */
+#define WIKUAY_REFUSED_NO_ROOM 7      /* the lent buffer is shorter than the result */
+#define WIKUAY_REFUSED_UNWRITABLE 8   /* the reading cannot be written under the service; a number names nothing */
+#define WIKUAY_REFUSED_NO_SEPTET 9    /* a given septet is 128 or more; position: the first such septet */
+
+/* The most of each service. A buffer of WIKUAY_MOST_.. elements is never refused 7 by the calls named beside it. */
+#define WIKUAY_SHORT_MESSAGE_SEPTETS 160
+#define WIKUAY_SHORT_MESSAGE_UNITS 70 /* of UCS2, as below */
+#define WIKUAY_SHORT_MESSAGE_OCTETS 140
+#define WIKUAY_BROADCAST_SEPTETS 93
+#define WIKUAY_BROADCAST_UNITS 41
+#define WIKUAY_BROADCAST_OCTETS 82 /* exactly */
+#define WIKUAY_USSD_SEPTETS 182
+#define WIKUAY_USSD_UNITS 80
+#define WIKUAY_USSD_OCTETS 160
+#define WIKUAY_OLD_PAGE_SEPTETS 93
+#define WIKUAY_OLD_PAGE_OCTETS 82 /* exactly */
+#define WIKUAY_MOST_OCTETS 160    /* room for what wikuay_pack and wikuay_write_message store */
+#define WIKUAY_MOST_SEPTETS 182   /* room for what wikuay_unpack stores */
+#define WIKUAY_MOST_UNITS 182     /* room for what wikuay_read_message stores */
+
+/* Alphabets of a reading. */
+#define WIKUAY_7BIT 0
+#define WIKUAY_8BIT 1
+#define WIKUAY_UCS2 2
+#define WIKUAY_WAP 3
+
+/* Classes of a reading. */
+#define WIKUAY_NO_CLASS 0
+#define WIKUAY_CLASS_0 1
+#define WIKUAY_CLASS_1 2
+#define WIKUAY_CLASS_2 3
+#define WIKUAY_CLASS_3 4
+#define WIKUAY_USER_DEFINED_1 5
+#define WIKUAY_USER_DEFINED_2 6
+
+/* Languages of a reading. */
+#define WIKUAY_GERMAN 0
+#define WIKUAY_ENGLISH 1
+#define WIKUAY_ITALIAN 2
+#define WIKUAY_FRENCH 3
+#define WIKUAY_SPANISH 4
+#define WIKUAY_DUTCH 5
+#define WIKUAY_SWEDISH 6
+#define WIKUAY_DANISH 7
+#define WIKUAY_PORTUGUESE 8
+#define WIKUAY_FINNISH 9
+#define WIKUAY_NORWEGIAN 10
+#define WIKUAY_GREEK 11
+#define WIKUAY_TURKISH 12
+#define WIKUAY_HUNGARIAN 13
+#define WIKUAY_POLISH 14
+#define WIKUAY_NO_LANGUAGE 15 /* unspecified */
+#define WIKUAY_CZECH 16
+
+/* Waiting notices of a reading: WIKUAY_NO_NOTICE, or how it is kept + whether it is active + its kind. */
+#define WIKUAY_NO_NOTICE 0
+#define WIKUAY_DISCARD 16
+#define WIKUAY_STORE 32
+#define WIKUAY_ACTIVE 8
+#define WIKUAY_VOICEMAIL 0
+#define WIKUAY_FAX 1
+#define WIKUAY_MAIL 2
+#define WIKUAY_OTHER 3
+
+/* What wikuay_holds_text answers. */
+#define WIKUAY_HOLDS_NOTHING 0
+#define WIKUAY_HOLDS_7BIT 1
+#define WIKUAY_HOLDS_UCS2 2
+
+/* What a data coding octet says. */
+typedef struct {
+  uint8_t alphabet;      /* WIKUAY_7BIT .. WIKUAY_WAP */
+  uint8_t compressed;    /* flag */
+  uint8_t message_class; /* WIKUAY_NO_CLASS .. WIKUAY_USER_DEFINED_2 */
+  uint8_t language;      /* WIKUAY_GERMAN .. WIKUAY_CZECH */
+  uint8_t deletion;      /* flag: the message is marked for automatic deletion */
+  uint8_t prefix;        /* flag: the text begins with its language */
+  uint8_t reserved;      /* flag: the coding is reserved, and reads as 7-bit text */
+  uint16_t notice;       /* WIKUAY_NO_NOTICE, or a sum as above */
+} wikuay_reading;
+
+/* The reading of 7-bit text with nothing special, for any service but the old page. WIKUAY_PLAIN initialises one, and
+   wikuay_plain() is one. */
+#define WIKUAY_PLAIN {WIKUAY_7BIT, 0, WIKUAY_NO_CLASS, WIKUAY_NO_LANGUAGE, 0, 0, 0, WIKUAY_NO_NOTICE}
+
+static inline wikuay_reading wikuay_plain(void) {
+  wikuay_reading reading = WIKUAY_PLAIN;
+  return reading;
+}
+
+/* What a call answers that writes, or that fills a lent buffer. */
+typedef struct {
+  uint32_t refusal; /* 0, or a WIKUAY_REFUSED_.. number */
+  uint32_t count;   /* the length count that travels with a short message, else 0 */
+  size_t position;  /* the unit or septet of refusal 6 or 9, else 0 */
+  size_t written;   /* elements stored at the front of out */
+  uint8_t coding;   /* the data coding octet of wikuay_write_coding and wikuay_write_message, else 0 */
+} wikuay_answer;
+
+/* What a call answers that reads a coding. */
+typedef struct {
+  uint32_t refusal; /* 0, or a WIKUAY_REFUSED_.. number */
+  size_t position;  /* 0 */
+  size_t written;   /* units stored at the front of out, by wikuay_read_message, else 0 */
+  uint32_t holds;   /* a WIKUAY_HOLDS_.. number of wikuay_holds_text, else 0 */
+  wikuay_reading reading; /* of wikuay_read_coding and wikuay_read_message, else WIKUAY_PLAIN */
+} wikuay_read_answer;
+
+/*
+ * Reads a data coding octet. Clauses 4 and 5. wikuay-read-coding-unique.
+ * Refuses: 8 unknown service, 2 an old page whose bits 3..0 are not 0.
+ */
+wikuay_read_answer wikuay_read_coding(uint32_t service, uint8_t coding);
+
+/*
+ * Writes a reading as the smallest octet that reads so. Clauses 4 and 5. wikuay-write-coding-unique.
+ * Refuses: 8 unknown service, a field that names nothing, an old page, the reserved mark, no octet reads so.
+ */
+wikuay_answer wikuay_write_coding(uint32_t service, wikuay_reading reading);
+
+/*
+ * Which text a reading holds. Clauses 4 and 5. wikuay-holds-text-unique.
+ * Refuses: 8 a field that names nothing, 1, 2, 3.
+ */
+wikuay_read_answer wikuay_holds_text(wikuay_reading reading);
+
+/*
+ * Packs septets into octets, filling and added carriage return included. Clauses 6.1.2.1, 6.1.2.2 and 6.1.2.3.
+ * wikuay-pack-unique, wikuay-pack-buffer-unique.
+ * Refuses: 8 unknown service or an old page, 9, 5, 7. Stores octets; count holds the septets of a short message.
+ */
+wikuay_answer wikuay_pack(uint32_t service, const uint8_t *septets, size_t septets_len, uint8_t *out, size_t out_len);
+
+/*
+ * Unpacks octets into septets, filling dropped. Clauses 6.1.2.1, 6.1.2.2 and 6.1.2.3.
+ * wikuay-unpack-unique, wikuay-unpack-buffer-unique.
+ * count is the septets of a short message, and 0 for the other services.
+ * Refuses: 8 unknown service, 4, 7. Stores septets.
+ */
+wikuay_answer wikuay_unpack(uint32_t service, const uint8_t *octets, size_t octets_len, size_t count, uint8_t *out,
+                            size_t out_len);
+
+/*
+ * Text to septets, by the alphabet and its extension. Clauses 6.2.1 and 6.2.1.1.
+ * wikuay-text-to-septets-unique, wikuay-text-to-septets-buffer-unique.
+ * Refuses: 6, 7. Stores septets, at most two a unit.
+ */
+wikuay_answer wikuay_text_to_septets(const uint16_t *text, size_t text_len, uint8_t *out, size_t out_len);
+
+/*
+ * Septets to text, by the alphabet and its extension. Clauses 6.2.1 and 6.2.1.1.
+ * wikuay-septets-to-text-unique, wikuay-septets-to-text-buffer-unique.
+ * Refuses: 9, 7. Stores units, at most one a septet.
+ */
+wikuay_answer wikuay_septets_to_text(const uint8_t *septets, size_t septets_len, uint16_t *out, size_t out_len);
+
+/*
+ * Reads a message: its text, and what its coding octet says. Clauses 4, 5 and 6.
+ * wikuay-read-message-unique, wikuay-read-message-buffer-unique; read-accepts and write-reads in docs/DEMANDS.md.
+ * count is the septets of a 7-bit short message, the octets of a UCS2 one, and 0 for the other services.
+ * Refuses: 8 unknown service, 1, 2, 3, 4, 7. Stores units.
+ */
+wikuay_read_answer wikuay_read_message(uint32_t service, uint8_t coding, size_t count, const uint8_t *octets,
+                                       size_t octets_len, uint16_t *out, size_t out_len);
+
+/*
+ * Writes a message: the octets of a text under a reading, with the length count and the coding octet. Clauses 4, 5, 6.
+ * wikuay-write-message-unique, wikuay-write-message-buffer-unique; write-accepts in docs/DEMANDS.md.
+ * Refuses: 8 unknown service, a field that names nothing, a reading that cannot be written; 1, 2, 3, 6, 5, 7.
+ * Stores octets.
+ */
+wikuay_answer wikuay_write_message(uint32_t service, wikuay_reading reading, const uint16_t *text, size_t text_len,
+                                   uint8_t *out, size_t out_len);
+
+#ifdef __cplusplus
+}
+#endif
+
+#endif
