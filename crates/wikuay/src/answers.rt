@@ -61,10 +61,11 @@ fn read(written: usize, holds: u32, reading: Reading) -> ReadAnswer
 pub(crate) fn read_refused(refusal: Refusal) -> ReadAnswer
     ensures { λ r. ⌜ r ≡ readRefusedAnswer refusal ⌝ }
 {
+    let plain = refused(refusal);
     let numbers = names::numbers(Reading::plain());
     ReadAnswer {
-        refusal: refusal.number() as u32,
-        position: refusal.position(),
+        refusal: plain.refusal,
+        position: plain.position,
         written: 0,
         holds: 0,
         reading: numbers,

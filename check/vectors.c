@@ -1,0 +1,499 @@
+/*
+ * vectors.c: runs cases in the format of docs/CASES.md through include/wikuay.h, from standard input.
+ *
+ * It prints what docs/CASES.md asks: a line for each case that differs, and the totals. The exit status is 0 if nothing
+ * differs, and 1 if something does. Every buffer that is lent to a call, input and output, ends where an unmapped page
+ * begins, and is lent a second time so that it begins where an unmapped page ends: one element over either end ends
+ * the program with a signal. Both runs must give the same. C99 and C++11.
+ */
+#define _DEFAULT_SOURCE
+#include <stdio.h>
+#include <stdlib.h>
+#include <string.h>
+#include <sys/mman.h>
+#include <unistd.h>
+
+#include "wikuay.h"
+
+#define LONGEST 8192
+#define MOST_ROOM 4096
+#define MOST_PARTS 16
+
+static void fail(const char *why) {
+  fprintf(stderr, "vectors: %s\n", why);
+  exit(2);
+}
+
+/* ---- Lent memory: two pages of our own between two that may not be touched. */
+
+typedef struct {
+  unsigned char *low;  /* the first octet that may be touched */
+  unsigned char *high; /* the first octet behind */
+} fence;
+
+static fence new_fence(void) {
+  size_t page = (size_t)sysconf(_SC_PAGESIZE), inner;
+  unsigned char *all;
+  fence made;
+  for (inner = page; inner < 2 * MOST_ROOM; inner += page) {
+  }
+  all = (unsigned char *)mmap(NULL, inner + 2 * page, PROT_NONE, MAP_PRIVATE | MAP_ANONYMOUS, -1, 0);
+  if (all == (unsigned char *)MAP_FAILED || mprotect(all + page, inner, PROT_READ | PROT_WRITE) != 0)
+    fail("no memory with fences");
+  made.low = all + page;
+  made.high = all + page + inner;
+  return made;
+}
+
+/* size octets against the fence at one end: at_end 1 is the high one. The octets on the other side are filled. */
+static unsigned char *lend(fence f, size_t size, int at_end) {
+  memset(f.low, 0x5A, (size_t)(f.high - f.low));
+  return at_end ? f.high - size : f.low;
+}
+
+/* Whether every octet of the fence outside the lent part is as lend left it. */
+static int outside_whole(fence f, const unsigned char *part, size_t size) {
+  const unsigned char *at;
+  for (at = f.low; at < f.high; at++)
+    if ((at < part || part + size <= at) && *at != 0x5A) return 0;
+  return 1;
+}
+
+/* ---- Values of a case. */
+
+typedef struct {
+  unsigned char octets[MOST_ROOM]; /* elements of one octet */
+  uint16_t units[MOST_ROOM];       /* elements of one unit */
+  size_t length;
+} run;
+
+typedef struct {
+  uint32_t service, count, room, refusal, position, written, holds;
+  unsigned coding;
+  wikuay_reading reading;
+  run given, out;
+} values;
+
+static values input, wanted, came;
+
+typedef struct {
+  const char *word;
+  uint32_t number;
+} name;
+
+static const name services[] = {{"sms", WIKUAY_SHORT_MESSAGE},
+                                {"broadcast", WIKUAY_BROADCAST},
+                                {"ussd", WIKUAY_USSD},
+                                {"old", WIKUAY_OLD_PAGE},
+                                {NULL, 0}};
+static const name held[] = {
+    {"7bit", WIKUAY_HOLDS_7BIT}, {"ucs2", WIKUAY_HOLDS_UCS2}, {"none", WIKUAY_HOLDS_NOTHING}, {NULL, 0}};
+static const name alphabets[] = {{"8bit", WIKUAY_8BIT}, {"ucs2", WIKUAY_UCS2}, {"wap", WIKUAY_WAP}, {NULL, 0}};
+static const name classes[] = {{"class0", WIKUAY_CLASS_0},       {"class1", WIKUAY_CLASS_1},
+                               {"class2", WIKUAY_CLASS_2},       {"class3", WIKUAY_CLASS_3},
+                               {"user1", WIKUAY_USER_DEFINED_1}, {"user2", WIKUAY_USER_DEFINED_2},
+                               {NULL, 0}};
+static const name languages[] = {{"german", WIKUAY_GERMAN},         {"english", WIKUAY_ENGLISH},
+                                 {"italian", WIKUAY_ITALIAN},       {"french", WIKUAY_FRENCH},
+                                 {"spanish", WIKUAY_SPANISH},       {"dutch", WIKUAY_DUTCH},
+                                 {"swedish", WIKUAY_SWEDISH},       {"danish", WIKUAY_DANISH},
+                                 {"portuguese", WIKUAY_PORTUGUESE}, {"finnish", WIKUAY_FINNISH},
+                                 {"norwegian", WIKUAY_NORWEGIAN},   {"greek", WIKUAY_GREEK},
+                                 {"turkish", WIKUAY_TURKISH},       {"hungarian", WIKUAY_HUNGARIAN},
+                                 {"polish", WIKUAY_POLISH},         {"czech", WIKUAY_CZECH},
+                                 {NULL, 0}};
+static const name handlings[] = {{"discard", WIKUAY_DISCARD}, {"store", WIKUAY_STORE}, {NULL, 0}};
+static const name senses[] = {{"active", WIKUAY_ACTIVE}, {"inactive", 0}, {NULL, 0}};
+static const name kinds[] = {
+    {"voicemail", WIKUAY_VOICEMAIL}, {"fax", WIKUAY_FAX}, {"mail", WIKUAY_MAIL}, {"other", WIKUAY_OTHER}, {NULL, 0}};
+static const name compressed[] = {{"compressed", 1}, {NULL, 0}};
+static const name deletion[] = {{"deletion", 1}, {NULL, 0}};
+static const name prefix[] = {{"prefix", 1}, {NULL, 0}};
+static const name reserved[] = {{"reserved", 1}, {NULL, 0}};
+
+/* The fields of a reading in the order of their words, and the number of each without a word. */
+enum { ALPHABET, COMPRESSED, CLASS, LANGUAGE, DELETION, HANDLING, SENSE, KIND, PREFIX, RESERVED, FIELDS };
+static const name *const fields[FIELDS] = {alphabets, compressed, classes, languages, deletion,
+                                           handlings, senses,     kinds,   prefix,    reserved};
+
+static const name *find(const name *names, const char *word, size_t length) {
+  for (; names->word; names++)
+    if (strlen(names->word) == length && memcmp(names->word, word, length) == 0) return names;
+  return NULL;
+}
+
+static const char *word_of(const name *names, uint32_t number) {
+  for (; names->word; names++)
+    if (names->number == number) return names->word;
+  return "?";
+}
+
+static int parse_reading(const char *text, wikuay_reading *reading) {
+  const name *said[FIELDS] = {NULL, NULL, NULL, NULL, NULL, NULL, NULL, NULL, NULL, NULL};
+  int at = 0, parts;
+  *reading = wikuay_plain();
+  if (strcmp(text, "plain") == 0) return 1;
+  for (;;) {
+    size_t length = strcspn(text, "+");
+    while (at < FIELDS && !(said[at] = find(fields[at], text, length))) at++;
+    if (at++ == FIELDS) return 0;
+    text += length;
+    if (*text == 0) break;
+    text++;
+  }
+  parts = (said[HANDLING] != NULL) + (said[SENSE] != NULL) + (said[KIND] != NULL);
+  if (parts != 0 && parts != 3) return 0;
+  if (said[ALPHABET]) reading->alphabet = (uint8_t)said[ALPHABET]->number;
+  if (said[CLASS]) reading->message_class = (uint8_t)said[CLASS]->number;
+  if (said[LANGUAGE]) reading->language = (uint8_t)said[LANGUAGE]->number;
+  reading->compressed = said[COMPRESSED] != NULL;
+  reading->deletion = said[DELETION] != NULL;
+  reading->prefix = said[PREFIX] != NULL;
+  reading->reserved = said[RESERVED] != NULL;
+  if (parts) reading->notice = (uint16_t)(said[HANDLING]->number + said[SENSE]->number + said[KIND]->number);
+  return 1;
+}
+
+static void print_reading(const wikuay_reading *r) {
+  const char *said[FIELDS] = {NULL, NULL, NULL, NULL, NULL, NULL, NULL, NULL, NULL, NULL};
+  const char *between = "";
+  int at;
+  if (r->alphabet != WIKUAY_7BIT) said[ALPHABET] = word_of(alphabets, r->alphabet);
+  if (r->compressed) said[COMPRESSED] = word_of(compressed, r->compressed);
+  if (r->message_class != WIKUAY_NO_CLASS) said[CLASS] = word_of(classes, r->message_class);
+  if (r->language != WIKUAY_NO_LANGUAGE) said[LANGUAGE] = word_of(languages, r->language);
+  if (r->deletion) said[DELETION] = word_of(deletion, r->deletion);
+  if (r->notice != WIKUAY_NO_NOTICE) {
+    said[HANDLING] = word_of(handlings, r->notice & ~15u);
+    said[SENSE] = word_of(senses, r->notice & 8u);
+    said[KIND] = word_of(kinds, r->notice & 7u);
+  }
+  if (r->prefix) said[PREFIX] = word_of(prefix, r->prefix);
+  if (r->reserved) said[RESERVED] = word_of(reserved, r->reserved);
+  for (at = 0; at < FIELDS; at++)
+    if (said[at]) {
+      printf("%s%s", between, said[at]);
+      between = "+";
+    }
+  if (!*between) printf("plain");
+}
+
+static int same_reading(const wikuay_reading *a, const wikuay_reading *b) {
+  return a->alphabet == b->alphabet && a->compressed == b->compressed && a->message_class == b->message_class &&
+         a->language == b->language && a->deletion == b->deletion && a->prefix == b->prefix &&
+         a->reserved == b->reserved && a->notice == b->notice;
+}
+
+static int digit(char c) {
+  if ('0' <= c && c <= '9') return c - '0';
+  if ('A' <= c && c <= 'F') return c - 'A' + 10;
+  return -1;
+}
+
+static int parse_number(const char *text, uint32_t most, uint32_t *number) {
+  uint64_t sum = 0;
+  size_t length = strlen(text), at;
+  if (length == 0 || length > 10 || (text[0] == '0' && length > 1)) return 0;
+  for (at = 0; at < length; at++) {
+    if (text[at] < '0' || '9' < text[at]) return 0;
+    sum = 10 * sum + (uint64_t)(text[at] - '0');
+  }
+  if (sum > most) return 0;
+  *number = (uint32_t)sum;
+  return 1;
+}
+
+/* Elements of so many hexadecimal digits: 2 for octets and septets, 4 for units. */
+static int parse_elements(const char *text, size_t digits, run *elements) {
+  size_t length = strlen(text), at, k;
+  elements->length = 0;
+  if (strcmp(text, "-") == 0) return 1;
+  if (length == 0 || length % digits != 0 || length / digits > MOST_ROOM) return 0;
+  for (at = 0; at < length; at += digits) {
+    unsigned element = 0;
+    for (k = 0; k < digits; k++) {
+      int d = digit(text[at + k]);
+      if (d < 0) return 0;
+      element = 16 * element + (unsigned)d;
+    }
+    if (digits == 2)
+      elements->octets[elements->length++] = (unsigned char)element;
+    else
+      elements->units[elements->length++] = (uint16_t)element;
+  }
+  return 1;
+}
+
+static void print_elements(const run *elements, size_t digits) {
+  size_t at;
+  for (at = 0; at < elements->length; at++)
+    printf("%0*X", (int)digits, digits == 2 ? (unsigned)elements->octets[at] : (unsigned)elements->units[at]);
+  if (elements->length == 0) printf("-");
+}
+
+static int same_elements(const run *a, const run *b, size_t digits) {
+  if (a->length != b->length) return 0;
+  return digits == 2 ? memcmp(a->octets, b->octets, a->length) == 0
+                     : memcmp(a->units, b->units, 2 * a->length) == 0;
+}
+
+/* ---- Calls and their keys. */
+
+enum { READ_CODING, WRITE_CODING, HOLDS_TEXT, PACK, UNPACK, TO_SEPTETS, TO_TEXT, READ_MESSAGE, WRITE_MESSAGE, CALLS };
+
+typedef struct {
+  const char *name;
+  const char *inputs; /* keys, each closed by a space */
+  const char *answer;
+  size_t digits; /* of an element of out, or 0 where no buffer is lent */
+} call;
+
+static const call calls[CALLS] = {
+    {"read-coding", "service coding ", "refusal position reading ", 0},
+    {"write-coding", "service reading ", "refusal position coding ", 0},
+    {"holds-text", "reading ", "refusal position holds ", 0},
+    {"pack", "service septets room ", "refusal position written count out ", 2},
+    {"unpack", "service count octets room ", "refusal position written out ", 2},
+    {"text-to-septets", "text room ", "refusal position written out ", 2},
+    {"septets-to-text", "septets room ", "refusal position written out ", 4},
+    {"read-message", "service coding count octets room ", "refusal position written reading out ", 4},
+    {"write-message", "service reading text room ", "refusal position written count coding out ", 2},
+};
+
+static int is(const char *key, size_t length, const char *word) {
+  return strlen(word) == length && memcmp(key, word, length) == 0;
+}
+
+static int parse_value(const char *key, size_t length, const char *text, size_t out_digits, values *v) {
+  const name *found;
+  uint32_t number;
+  if (is(key, length, "service")) {
+    found = find(services, text, strlen(text));
+    if (found) v->service = found->number;
+    return found != NULL;
+  }
+  if (is(key, length, "holds")) {
+    found = find(held, text, strlen(text));
+    if (found) v->holds = found->number;
+    return found != NULL;
+  }
+  if (is(key, length, "coding")) {
+    if (strlen(text) != 2 || digit(text[0]) < 0 || digit(text[1]) < 0) return 0;
+    v->coding = (unsigned)(16 * digit(text[0]) + digit(text[1]));
+    return 1;
+  }
+  if (is(key, length, "reading")) return parse_reading(text, &v->reading);
+  if (is(key, length, "septets") || is(key, length, "octets")) return parse_elements(text, 2, &v->given);
+  if (is(key, length, "text")) return parse_elements(text, 4, &v->given);
+  if (is(key, length, "out")) return parse_elements(text, out_digits, &v->out);
+  if (!parse_number(text, is(key, length, "room") ? MOST_ROOM : UINT32_MAX, &number)) return 0;
+  if (is(key, length, "room")) v->room = number;
+  if (is(key, length, "count")) v->count = number;
+  if (is(key, length, "refusal")) v->refusal = number;
+  if (is(key, length, "position")) v->position = number;
+  if (is(key, length, "written")) v->written = number;
+  return 1;
+}
+
+/* The parts from `from` up to `to` are exactly these keys with their values, in this order. */
+static int parse_values(char **parts, int from, int to, const char *keys, size_t out_digits, values *v) {
+  for (; *keys; from++) {
+    size_t length = strcspn(keys, " ");
+    if (from == to || strncmp(parts[from], keys, length) != 0 || parts[from][length] != '=') return 0;
+    if (!parse_value(keys, length, parts[from] + length + 1, out_digits, v)) return 0;
+    keys += length + 1;
+  }
+  return from == to;
+}
+
+static void print_values(const char *keys, size_t out_digits, const values *v) {
+  const char *between = "";
+  while (*keys) {
+    size_t length = strcspn(keys, " ");
+    printf("%s%.*s=", between, (int)length, keys);
+    if (is(keys, length, "refusal")) printf("%lu", (unsigned long)v->refusal);
+    if (is(keys, length, "position")) printf("%lu", (unsigned long)v->position);
+    if (is(keys, length, "written")) printf("%lu", (unsigned long)v->written);
+    if (is(keys, length, "count")) printf("%lu", (unsigned long)v->count);
+    if (is(keys, length, "coding")) printf("%02X", v->coding);
+    if (is(keys, length, "reading")) print_reading(&v->reading);
+    if (is(keys, length, "holds")) printf("%s", word_of(held, v->holds));
+    if (is(keys, length, "out")) print_elements(&v->out, out_digits);
+    between = " ";
+    keys += length + 1;
+  }
+}
+
+/* The values of keys that a call's answer lacks are the same on both sides, since both begin as all zero. */
+static int same_values(const values *a, const values *b, size_t out_digits) {
+  return a->refusal == b->refusal && a->position == b->position && a->written == b->written && a->count == b->count &&
+         a->coding == b->coding && a->holds == b->holds && same_reading(&a->reading, &b->reading) &&
+         (out_digits == 0 || same_elements(&a->out, &b->out, out_digits));
+}
+
+/* ---- Running. */
+
+static fence given_fence, out_fence;
+static int wrong_silence; /* a value was set that the call's answer does not name */
+
+static void take(const wikuay_answer *a, int counts, int codes) {
+  came.refusal = a->refusal;
+  came.position = (uint32_t)a->position;
+  came.written = (uint32_t)a->written;
+  came.count = a->count;
+  came.coding = a->coding;
+  if ((!counts && a->count) || (!codes && a->coding) || a->position > UINT32_MAX || a->written > UINT32_MAX)
+    wrong_silence = 1;
+}
+
+static void take_read(const wikuay_read_answer *a, int reads, int holds) {
+  static const wikuay_reading plain = WIKUAY_PLAIN;
+  came.refusal = a->refusal;
+  came.position = (uint32_t)a->position;
+  came.written = (uint32_t)a->written;
+  came.holds = a->holds;
+  came.reading = a->reading;
+  if ((!reads && !same_reading(&a->reading, &plain)) || (!holds && a->holds) || a->position > UINT32_MAX ||
+      a->written > UINT32_MAX)
+    wrong_silence = 1;
+}
+
+/* Runs the call with its buffers against the fences at one end. Answers the first touched element behind the written
+   ones, or -1. */
+static long run_call(int c, int at_end) {
+  size_t wide = calls[c].digits / 2, in_wide = c == TO_SEPTETS || c == WRITE_MESSAGE ? 2 : 1;
+  size_t given_size = input.given.length * in_wide, out_size = input.room * wide, at, kept;
+  unsigned char *given = lend(given_fence, given_size, at_end), *out = lend(out_fence, out_size, at_end);
+  const uint16_t *given_units = (const uint16_t *)(void *)given;
+  uint16_t *out_units = (uint16_t *)(void *)out;
+  wikuay_answer a;
+  wikuay_read_answer r;
+  memcpy(given, in_wide == 2 ? (const void *)input.given.units : (const void *)input.given.octets, given_size);
+  memset(out, 0xA5, out_size);
+  memset(&came, 0, sizeof came);
+  came.reading = wikuay_plain();
+  switch (c) {
+    case READ_CODING:
+      r = wikuay_read_coding(input.service, (uint8_t)input.coding);
+      take_read(&r, 1, 0);
+      break;
+    case WRITE_CODING:
+      a = wikuay_write_coding(input.service, input.reading);
+      take(&a, 0, 1);
+      break;
+    case HOLDS_TEXT:
+      r = wikuay_holds_text(input.reading);
+      take_read(&r, 0, 1);
+      break;
+    case PACK:
+      a = wikuay_pack(input.service, given, input.given.length, out, input.room);
+      take(&a, 1, 0);
+      break;
+    case UNPACK:
+      a = wikuay_unpack(input.service, given, input.given.length, input.count, out, input.room);
+      take(&a, 0, 0);
+      break;
+    case TO_SEPTETS:
+      a = wikuay_text_to_septets(given_units, input.given.length, out, input.room);
+      take(&a, 0, 0);
+      break;
+    case TO_TEXT:
+      a = wikuay_septets_to_text(given, input.given.length, out_units, input.room);
+      take(&a, 0, 0);
+      break;
+    case READ_MESSAGE:
+      r = wikuay_read_message(input.service, (uint8_t)input.coding, input.count, given, input.given.length, out_units,
+                              input.room);
+      take_read(&r, 1, 0);
+      break;
+    default:
+      a = wikuay_write_message(input.service, input.reading, given_units, input.given.length, out, input.room);
+      take(&a, 1, 1);
+      break;
+  }
+  if (!outside_whole(out_fence, out, out_size) || !outside_whole(given_fence, given, given_size) ||
+      memcmp(given, in_wide == 2 ? (const void *)input.given.units : (const void *)input.given.octets, given_size) != 0)
+    fail("a call stored outside its buffer");
+  kept = came.written < input.room ? came.written : input.room;
+  came.out.length = wide ? kept : 0;
+  if (wide == 1) memcpy(came.out.octets, out, kept);
+  if (wide == 2) memcpy(came.out.units, out, 2 * kept);
+  for (at = kept; wide && at < input.room; at++)
+    if (wide == 1 ? out[at] != 0xA5 : out_units[at] != 0xA5A5) return (long)at;
+  return -1;
+}
+
+/* Answers whether the line agrees; prints it where not. */
+static int run_line(char *line, size_t length, unsigned long number) {
+  static values high;
+  char *parts[MOST_PARTS + 1];
+  int count = 0, colon = -1, c = 0;
+  size_t at;
+  long touched, low_touched;
+  if (length > LONGEST) {
+    printf("line %lu: longer than %d characters\n", number, LONGEST);
+    return 0;
+  }
+  for (at = 0; at < length; at++)
+    if (line[at] < ' ' || '~' < line[at]) goto no_case;
+  for (at = 0; at <= length; at++) {
+    if (count == MOST_PARTS) goto no_case;
+    parts[count] = line + at;
+    at += strcspn(line + at, " ");
+    line[at] = 0;
+    if (count >= 2 && colon < 0 && strcmp(parts[count], ":") == 0) colon = count;
+    count++;
+  }
+  if (colon < 0 || strlen(parts[0]) == 0 || strlen(parts[0]) > 64 ||
+      parts[0][strspn(parts[0], "ABCDEFGHIJKLMNOPQRSTUVWXYZabcdefghijklmnopqrstuvwxyz0123456789.-_")] != 0)
+    goto no_case;
+  while (c < CALLS && strcmp(parts[1], calls[c].name) != 0) c++;
+  if (c == CALLS) goto no_case;
+  memset(&input, 0, sizeof input);
+  memset(&wanted, 0, sizeof wanted);
+  input.reading = wanted.reading = wikuay_plain();
+  if (!parse_values(parts, 2, colon, calls[c].inputs, calls[c].digits, &input) ||
+      !parse_values(parts, colon + 1, count, calls[c].answer, calls[c].digits, &wanted))
+    goto no_case;
+  wrong_silence = 0;
+  touched = run_call(c, 1);
+  high = came;
+  low_touched = run_call(c, 0);
+  if (touched != low_touched || !same_values(&high, &came, calls[c].digits))
+    fail("a call answers by where its buffers lie");
+  if (wrong_silence) fail("a call sets a value that its answer does not name");
+  if (touched < 0 && same_values(&wanted, &came, calls[c].digits)) return 1;
+  printf("%s: expected ", parts[0]);
+  print_values(calls[c].answer, calls[c].digits, &wanted);
+  printf("; came ");
+  print_values(calls[c].answer, calls[c].digits, &came);
+  if (touched >= 0) printf(" touched=%ld", touched);
+  printf("\n");
+  return 0;
+no_case:
+  printf("line %lu: not a case\n", number);
+  return 0;
+}
+
+int main(void) {
+  static char line[LONGEST + 3];
+  unsigned long number = 0, cases = 0, differ = 0;
+  int c = getchar();
+  given_fence = new_fence();
+  out_fence = new_fence();
+  while (c != EOF) {
+    size_t length = 0;
+    for (; c != EOF && c != '\n'; c = getchar())
+      if (length <= LONGEST) line[length++] = (char)c;
+    line[length] = 0;
+    number++;
+    if (length != 0 && line[0] != '#') {
+      cases++;
+      differ += !run_line(line, length, number);
+    }
+    if (c != EOF) c = getchar();
+  }
+  if (ferror(stdin)) fail("standard input cannot be read");
+  printf("%lu cases, %lu differ\n", cases, differ);
+  return differ != 0;
+}
