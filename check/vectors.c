@@ -2,9 +2,10 @@
  * vectors.c: runs cases in the format of docs/CASES.md through include/wikuay.h, from standard input.
  *
  * It prints what docs/CASES.md asks: a line for each case that differs, and the totals. The exit status is 0 if nothing
- * differs, and 1 if something does. Every buffer that is lent to a call, input and output, ends where an unmapped page
- * begins, and is lent a second time so that it begins where an unmapped page ends: one element over either end ends
- * the program with a signal. Both runs must give the same. C99 and C++11.
+ * differs, and 1 if something does. Every case is run three times: with each buffer, input and output, ending where an
+ * unmapped page begins; beginning where one ends; and on the heap, of exact size, for valgrind. One element over either
+ * end ends the program with a signal. All runs must give the same. The argument `low` or `high` touches one octet over
+ * that end and nothing else, to show that it does. C99 and C++11.
  */
 #define _DEFAULT_SOURCE
 #include <stdio.h>
@@ -45,15 +46,27 @@ static fence new_fence(void) {
   return made;
 }
 
-/* size octets against the fence at one end: at_end 1 is the high one. The octets on the other side are filled. */
-static unsigned char *lend(fence f, size_t size, int at_end) {
+enum { LOW, HIGH, HEAP, PLACES };
+
+/* size octets at a place: against the fence at one end, the octets up to the other filled; or on the heap. */
+static unsigned char *lend(fence f, size_t size, int place) {
+  unsigned char *made;
+  if (place == HEAP) {
+    made = (unsigned char *)malloc(size + (size == 0));
+    if (!made) fail("no memory");
+    return made;
+  }
   memset(f.low, 0x5A, (size_t)(f.high - f.low));
-  return at_end ? f.high - size : f.low;
+  return place == HIGH ? f.high - size : f.low;
 }
 
-/* Whether every octet of the fence outside the lent part is as lend left it. */
-static int outside_whole(fence f, const unsigned char *part, size_t size) {
+/* Takes it back. Answers whether every octet of the fence outside the lent part is as lend left it. */
+static int take_back(fence f, unsigned char *part, size_t size, int place) {
   const unsigned char *at;
+  if (place == HEAP) {
+    free(part);
+    return 1;
+  }
   for (at = f.low; at < f.high; at++)
     if ((at < part || part + size <= at) && *at != 0x5A) return 0;
   return 1;
@@ -358,16 +371,16 @@ static void take_read(const wikuay_read_answer *a, int reads, int holds) {
     wrong_silence = 1;
 }
 
-/* Runs the call with its buffers against the fences at one end. Answers the first touched element behind the written
-   ones, or -1. */
-static long run_call(int c, int at_end) {
+/* Runs the call with its buffers at a place. Answers the first touched element behind the written ones, or -1. */
+static long run_call(int c, int place) {
   size_t wide = calls[c].digits / 2, in_wide = c == TO_SEPTETS || c == WRITE_MESSAGE ? 2 : 1;
   size_t given_size = input.given.length * in_wide, out_size = input.room * wide, at, kept;
-  unsigned char *given = lend(given_fence, given_size, at_end), *out = lend(out_fence, out_size, at_end);
+  unsigned char *given = lend(given_fence, given_size, place), *out = lend(out_fence, out_size, place);
   const uint16_t *given_units = (const uint16_t *)(void *)given;
   uint16_t *out_units = (uint16_t *)(void *)out;
   wikuay_answer a;
   wikuay_read_answer r;
+  long touched;
   memcpy(given, in_wide == 2 ? (const void *)input.given.units : (const void *)input.given.octets, given_size);
   memset(out, 0xA5, out_size);
   memset(&came, 0, sizeof came);
@@ -411,25 +424,27 @@ static long run_call(int c, int at_end) {
       take(&a, 1, 1);
       break;
   }
-  if (!outside_whole(out_fence, out, out_size) || !outside_whole(given_fence, given, given_size) ||
-      memcmp(given, in_wide == 2 ? (const void *)input.given.units : (const void *)input.given.octets, given_size) != 0)
-    fail("a call stored outside its buffer");
+  if (memcmp(given, in_wide == 2 ? (const void *)input.given.units : (const void *)input.given.octets, given_size) != 0)
+    fail("a call stored into its input");
   kept = came.written < input.room ? came.written : input.room;
   came.out.length = wide ? kept : 0;
   if (wide == 1) memcpy(came.out.octets, out, kept);
   if (wide == 2) memcpy(came.out.units, out, 2 * kept);
   for (at = kept; wide && at < input.room; at++)
-    if (wide == 1 ? out[at] != 0xA5 : out_units[at] != 0xA5A5) return (long)at;
-  return -1;
+    if (wide == 1 ? out[at] != 0xA5 : out_units[at] != 0xA5A5) break;
+  touched = wide && at < input.room ? (long)at : -1;
+  if (!take_back(out_fence, out, out_size, place) || !take_back(given_fence, given, given_size, place))
+    fail("a call stored outside its buffer");
+  return touched;
 }
 
 /* Answers whether the line agrees; prints it where not. */
 static int run_line(char *line, size_t length, unsigned long number) {
-  static values high;
+  static values first;
   char *parts[MOST_PARTS + 1];
-  int count = 0, colon = -1, c = 0;
+  int count = 0, colon = -1, c = 0, place;
   size_t at;
-  long touched, low_touched;
+  long touched;
   if (length > LONGEST) {
     printf("line %lu: longer than %d characters\n", number, LONGEST);
     return 0;
@@ -456,11 +471,11 @@ static int run_line(char *line, size_t length, unsigned long number) {
       !parse_values(parts, colon + 1, count, calls[c].answer, calls[c].digits, &wanted))
     goto no_case;
   wrong_silence = 0;
-  touched = run_call(c, 1);
-  high = came;
-  low_touched = run_call(c, 0);
-  if (touched != low_touched || !same_values(&high, &came, calls[c].digits))
-    fail("a call answers by where its buffers lie");
+  touched = run_call(c, LOW);
+  first = came;
+  for (place = HIGH; place < PLACES; place++)
+    if (run_call(c, place) != touched || !same_values(&first, &came, calls[c].digits))
+      fail("a call answers by where its buffers lie");
   if (wrong_silence) fail("a call sets a value that its answer does not name");
   if (touched < 0 && same_values(&wanted, &came, calls[c].digits)) return 1;
   printf("%s: expected ", parts[0]);
@@ -475,12 +490,16 @@ no_case:
   return 0;
 }
 
-int main(void) {
+int main(int words, char **word) {
   static char line[LONGEST + 3];
   unsigned long number = 0, cases = 0, differ = 0;
-  int c = getchar();
+  int c;
   given_fence = new_fence();
   out_fence = new_fence();
+  if (words == 2 && strcmp(word[1], "low") == 0) *((volatile unsigned char *)out_fence.low - 1) = 1;
+  if (words == 2 && strcmp(word[1], "high") == 0) *(volatile unsigned char *)out_fence.high = 1;
+  if (words != 1) fail("the argument is none, low or high, and the last two do not come back");
+  c = getchar();
   while (c != EOF) {
     size_t length = 0;
     for (; c != EOF && c != '\n'; c = getchar())

@@ -145,7 +145,7 @@ typedef struct {
 /* What a call answers that reads a coding. */
 typedef struct {
   uint32_t refusal; /* 0, or a WIKUAY_REFUSED_.. number */
-  size_t position;  /* 0 */
+  size_t position;  /* 0, since no refusal of these calls has a position */
   size_t written;   /* units stored at the front of out, by wikuay_read_message, else 0 */
   uint32_t holds;   /* a WIKUAY_HOLDS_.. number of wikuay_holds_text, else 0 */
   wikuay_reading reading; /* of wikuay_read_coding and wikuay_read_message, else WIKUAY_PLAIN */

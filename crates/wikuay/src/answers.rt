@@ -34,10 +34,12 @@ fn done(count: u32, written: usize, coding: u8) -> Answer
 pub(crate) fn refused(refusal: Refusal) -> Answer
     ensures { λ r. ⌜ r ≡ refusedAnswer refusal ⌝ }
 {
+    let number = refusal.number() as u32;
+    let position = refusal.position();
     Answer {
-        refusal: refusal.number() as u32,
+        refusal: number,
         count: 0,
-        position: refusal.position(),
+        position: position,
         written: 0,
         coding: 0,
     }

@@ -6,8 +6,8 @@ use Rattle.wikuay.proofs.answers.refused.Tie as tie
 number-requires : tie.Need-number-requires
 number-requires c κs = search needs
 
-cast-t3 : tie.Need-cast-t3
-cast-t3 c = search needs
+cast-number : tie.Need-cast-number
+cast-number c = search needs
 
 position-requires : tie.Need-position-requires
 position-requires c κs = search needs
@@ -16,4 +16,4 @@ returns : tie.Need-returns
 returns c = simp (c .position .ensures, c .before .number .ensures)
 
 pub refused-spec : {M : Type 1} → statement M
-refused-spec = tie.close (tie.spec number-requires cast-t3 position-requires returns)
+refused-spec = tie.close (tie.spec number-requires cast-number position-requires returns)

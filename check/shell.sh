@@ -1,0 +1,38 @@
+# Shell functions that the scripts share. A script that sources this has set -euo pipefail, and stands in the root.
+
+# need PACKAGE COMMAND..: installs the Debian package if the command fails.
+need() {
+  local package=$1 me=${0##*/} as=()
+  shift
+  "$@" >/dev/null 2>&1 && return
+  printf '%s: installing the Debian package %s\n' "$me" "$package"
+  [ "$(id -u)" = 0 ] || as=(sudo)
+  "${as[@]}" apt-get update -qq && "${as[@]}" apt-get install -qq -y --no-install-recommends "$package" >/dev/null || true
+  "$@" >/dev/null 2>&1 && return
+  printf "%s: '%s' fails; install the Debian package %s and try again\n" "$me" "$*" "$package"
+  exit 2
+}
+
+# need_rt: ends the script where the Rattle kit is missing.
+need_rt() {
+  command -v rt >/dev/null 2>&1 && return
+  printf '%s: the command rt is not on the PATH; install the Rattle kit (%s) and try again\n' "${0##*/}" "$(cat kit.txt)"
+  exit 2
+}
+
+# archive: proves the exported calls and builds target/staticlib/libwikuay.a, where a source is newer or there is none.
+archive() {
+  local made=target/staticlib/libwikuay.a me=${0##*/}
+  if [ -f $made ] && [ -z "$(find crates.txt crates \( -name '*.rt' -o -name '*.antt' -o -name crates.txt \) -newer $made -print -quit)" ]; then
+    return
+  fi
+  printf '%s: proving and building libwikuay.a; this takes some minutes\n' "$me"
+  mkdir -p target
+  if ! rt staticlib wikuay >target/archive.log 2>&1; then
+    printf '%s: the build failed; target/archive.log says why\n' "$me"
+    exit 1
+  fi
+}
+
+# kit: the folder of the Rattle kit.
+kit() { dirname "$(dirname "$(rt doc)")"; }
