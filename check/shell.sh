@@ -1,4 +1,5 @@
 # Shell functions that the scripts share. A script that sources this has set -euo pipefail, and stands in the root.
+# shellcheck shell=bash
 
 # need PACKAGE COMMAND..: installs the Debian package if the command fails.
 need() {
