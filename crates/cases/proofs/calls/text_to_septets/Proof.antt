@@ -1,0 +1,68 @@
+-- Each part of a local array that is lent ends within it: the fields bound their numbers.
+use lib.Seq.{length-take-le}
+use native.Mathlib.Omega.{arith}
+use mathlib.Core.Path.{sym}
+use borrow.Author.Needs.{needs}
+use Rattle.cases.proofs.calls.text_to_septets.Statement.{statement}
+use Rattle.cases.proofs.calls.text_to_septets.Tie as tie
+
+slice-aggregate-units-field : tie.Need-slice-aggregate-units-field
+slice-aggregate-units-field c = search needs
+
+slice-aggregate-units-field-2 : tie.Need-slice-aggregate-units-field-2
+slice-aggregate-units-field-2 c = search needs
+
+units-field-requires : tie.Need-units-field-requires
+units-field-requires c κs = search needs
+
+slice-aggregate-number-field : tie.Need-slice-aggregate-number-field
+slice-aggregate-number-field c = search needs
+
+number-field-requires : tie.Need-number-field-requires
+number-field-requires c κs = search needs
+
+not-run-requires : tie.Need-not-run-requires
+not-run-requires c κs = search needs
+
+returns : tie.Need-returns
+returns c = search needs
+
+array-share-prefix-units : tie.Need-array-share-prefix-units
+array-share-prefix-units c = search needs
+
+slice-aggregate-septets-into : tie.Need-slice-aggregate-septets-into
+slice-aggregate-septets-into c = sym (length-take-le _ _ (omega arith))
+
+array-borrow-prefix-out : tie.Need-array-borrow-prefix-out
+array-borrow-prefix-out c = search needs
+
+slice-aggregate-septets-into-2 : tie.Need-slice-aggregate-septets-into-2
+slice-aggregate-septets-into-2 c = sym (length-take-le _ _ (omega arith))
+
+septets-into-requires : tie.Need-septets-into-requires
+septets-into-requires c κs = search needs
+
+same-length : tie.Need-same-length
+same-length c = search needs
+
+returns-2 : tie.Need-returns-2
+returns-2 c = search needs
+
+pub text-to-septets-spec : {M : Type 1} → statement M
+text-to-septets-spec =
+    tie.close
+    (tie.spec
+    slice-aggregate-units-field
+    slice-aggregate-units-field-2
+    units-field-requires
+    slice-aggregate-number-field
+    number-field-requires
+    not-run-requires
+    returns
+    array-share-prefix-units
+    slice-aggregate-septets-into
+    array-borrow-prefix-out
+    slice-aggregate-septets-into-2
+    septets-into-requires
+    same-length
+    returns-2)
