@@ -37,3 +37,28 @@ archive() {
 
 # kit: the folder of the Rattle kit.
 kit() { dirname "$(dirname "$(rt doc)")"; }
+
+# program NAME: proves and builds target/bin/NAME, where a source is newer or there is none, with one line a crate.
+program() {
+  local made=target/bin/$1 me=${0##*/}
+  if [ -x "$made" ] && [ -z "$(find crates.txt crates \( -name '*.rt' -o -name crates.txt \) -newer "$made" -print -quit)" ]; then
+    return
+  fi
+  printf '%s: proving and building the program %s; this takes some minutes\n' "$me" "$1" >&2
+  mkdir -p target
+  if ! rt check "$1" 2>&1 | tee "target/$1.log" | sed -u -n "s/^rt: \([a-z0-9_]* proved.*\)/$me: \1/p" >&2; then
+    printf '%s: the build failed; target/%s.log says why\n' "$me" "$1" >&2
+    exit 1
+  fi
+  touch "$made"
+}
+
+# run NAME WORDS..: runs target/bin/NAME. It is x86-64: the kit has its loader and library, and on Arm an emulator.
+run() {
+  local made=target/bin/$1 folder machine
+  shift
+  folder=$(kit) machine=$(uname -m)
+  set -- "$folder/toolchain/lib/ld-linux-x86-64.so.2" --library-path "$folder/toolchain/lib" "$made" "$@"
+  [ "$machine" = x86_64 ] || set -- "$folder/on/$machine/toolchain/bin/qemu-x86_64" "$@"
+  "$@"
+}
