@@ -4,7 +4,7 @@ use mathlib.Core.Path.{_≡_, ap, _∙_, subst, sym}
 use mathlib.Core.Bool.{Bool}
 use Prim.Native.Nat.{ℕ, _/_, _%_, _<_}
 use lib.Dec.{T, eqb, eqb→eq}
-use Rattle.words.specs.Bits.{bitOf, bitsFrom, bitsOf}
+use Rattle.words.specs.Bits.{bitOf, gather, bitsOf}
 use Rattle.words.proofs.Tests.{everyBelow, every-below}
 use Rattle.coding.specs.declared.Reading.{Reading}
 use Rattle.coding.specs.OctetRead.{classIn, discardIn, storeIn, generalReading, noticeReading, lastReading, readShort, readPage}
@@ -16,11 +16,11 @@ abbrev keyed : (ℕ → ℕ) → (ℕ → Reading) → ℕ → Bool
 keyed key read o = eqb (key o) (keyOf (read o))
 
 short-keyed : T (everyBelow (keyed shortKey readShort) 256)
-unfolding shortKey generalKey noticeKey lastKey keyOf readShort generalReading noticeReading lastReading classIn discardIn storeIn bitsOf bitsFrom bitOf
+unfolding shortKey generalKey noticeKey lastKey keyOf readShort generalReading noticeReading lastReading classIn discardIn storeIn bitsOf gather bitOf
 short-keyed = tt
 
 page-keyed : T (everyBelow (keyed pageKey readPage) 256)
-unfolding pageKey generalKey lastKey keyOf readPage generalReading lastReading classIn bitsOf bitsFrom bitOf
+unfolding pageKey generalKey lastKey keyOf readPage generalReading lastReading classIn bitsOf gather bitOf
 page-keyed = tt
 
 pub short-key-is : (o : ℕ) → o < 256 → shortKey o ≡ keyOf (readShort o)

@@ -10,7 +10,7 @@ use native.Mathlib.Decide.{decLe}
 use borrow.Author.Tests.{ne-eqb}
 use lib.Dec.{T, eqb, leb, leb→le}
 use lib.ListN.{getD}
-use Rattle.words.specs.Bits.{bitOf, bitsFrom, bitsOf}
+use Rattle.words.specs.Bits.{bitOf, gather, bitsOf}
 use Rattle.words.specs.Lists.{firstPlace, numbersFrom}
 use Rattle.words.specs.Sizes.{isOldPage}
 use Rattle.words.specs.Judging.{verdict}
@@ -32,11 +32,11 @@ abbrev good : (ℕ → Reading) → (Reading → ℕ) → ℕ → Bool
 good read tried o = cond (read o .reserved) true (both (leb (tried (read o)) o) (sameReading (read (tried (read o))) (read o)))
 
 short-good : T (everyBelow (good readShort (λ (r : Reading). shortTry (keyOf r))) 256)
-unfolding readShort generalReading noticeReading lastReading classIn discardIn storeIn bitsOf bitsFrom bitOf keyOf shortTry generalTry
+unfolding readShort generalReading noticeReading lastReading classIn discardIn storeIn bitsOf gather bitOf keyOf shortTry generalTry
 short-good = tt
 
 page-good : T (everyBelow (good readPage (λ (r : Reading). pageTry (keyOf r))) 256)
-unfolding readPage generalReading lastReading classIn bitsOf bitsFrom bitOf keyOf pageTry generalTry
+unfolding readPage generalReading lastReading classIn bitsOf gather bitOf keyOf pageTry generalTry
 page-good = tt
 
 -- the place of the first octet that reads as r

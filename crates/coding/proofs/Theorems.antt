@@ -24,7 +24,7 @@ use Rattle.coding.specs.declared.OctetRead.the-variants as read
 use Rattle.coding.specs.declared.OctetWritten.{OctetWritten}
 use Rattle.coding.specs.declared.OctetWritten.the-variants.{Done, Refused}
 use Rattle.coding.specs.OctetRead.{classIn, discardIn, storeIn, generalReading, noticeReading, lastReading, readShort, readPage, readUnder, octetRules, octetReads}
-use Rattle.words.specs.Bits.{bitOf, bitsFrom, bitsOf}
+use Rattle.words.specs.Bits.{bitOf, gather, bitsOf}
 use Rattle.words.proofs.Tests.{both}
 use Rattle.coding.specs.OctetWritten.{sameReading, smallest, writeRules, octetWrites}
 use Rattle.coding.proofs.Same.{same-sound, same-complete}
@@ -131,5 +131,5 @@ right [] = true
 right (count s reserved writable ∷ more) = both (both (eqb (reservedOctets s) reserved) (eqb (writableReadings s) writable)) (right more)
 
 pub octet-counts : T (right counts)
-unfolding right counts counted octetWrites writeRules verdict smallest firstPlace numbersFrom readShort readPage generalReading noticeReading lastReading classIn discardIn storeIn bitsOf bitsFrom bitOf
+unfolding right counts counted octetWrites writeRules verdict smallest firstPlace numbersFrom readShort readPage generalReading noticeReading lastReading classIn discardIn storeIn bitsOf gather bitOf
 octet-counts = tt

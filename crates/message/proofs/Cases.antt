@@ -5,7 +5,7 @@ use mathlib.Core.List.{List, [], _∷_, _++_}
 use Prim.Native.Nat.{ℕ, zero, suc}
 use lib.Dec.{T, eqb}
 use lib.ListN.{length, replicate}
-use Rattle.words.specs.Bits.{bitOf, bitsFrom, bitsOf}
+use Rattle.words.specs.Bits.{bitOf, gather, bitsOf}
 use Rattle.words.specs.Lists.{firstPlace, laid, numbersFrom}
 use Rattle.words.specs.Closing.{beforeKept, withoutClosing}
 use Rattle.words.specs.Judging.{verdict}
@@ -26,7 +26,7 @@ use Rattle.coding.specs.Holding.{textRules}
 use Rattle.alphabet.specs.Tables.{mainTable, extension, among, beside}
 use Rattle.alphabet.specs.Writing.{listedAs, septetsOf}
 use Rattle.alphabet.specs.Reading.{mainUnit, afterEscape, textOf, textEscaped}
-use Rattle.stream.specs.Stream.{streamBit, gather, cut, octetsFor, packed, unpacked}
+use Rattle.stream.specs.Stream.{streamBit, cut, octetsFor, packed, unpacked}
 use Rattle.stream.specs.UssdPacking.{last, addsCr, closed, ussdOctets, dropsCr, opened, ussdSeptets}
 use Rattle.stream.specs.Pages.{page, pageOctets}
 use Rattle.message.specs.declared.MessageRead.{MessageRead}
@@ -95,6 +95,7 @@ cases =
     ∷ writes ShortMessage (0x20ac ∷ []) (0x9b ∷ 0x32 ∷ []) 2
     -- C4 to C7
     ∷ writes Ussd (replicate 7 0x0040) (replicate 6 0x00 ++ (0x1a ∷ [])) 0
+    ∷ reads Ussd 0x0f 0 (replicate 6 0x00 ++ (0x1a ∷ [])) (replicate 7 0x0040)
     ∷ writes Ussd (replicate 8 0x0040) (replicate 7 0x00) 0
     ∷ writes Ussd (replicate 7 0x0040 ++ (0x000d ∷ [])) (replicate 6 0x00 ++ (0x1a ∷ 0x0d ∷ [])) 0
     ∷ writes Ussd (replicate 7 0x0040 ++ (0x000d ∷ 0x000d ∷ [])) (replicate 6 0x00 ++ (0x1a ∷ 0x0d ∷ [])) 0
@@ -112,5 +113,5 @@ cases =
     ∷ []
 
 pub cases-hold : T (allHold cases)
-unfolding allHold holds cases times wrote was said coded writeAnswers writeLeaves readAnswers readLeaves verdict writeRules readRules lengthRules sizeRules codingRules textRules octetRules octetReads octetWrites smallest firstPlace numbersFrom readShort readPage bitsOf bitsFrom bitOf generalReading noticeReading lastReading classIn discardIn storeIn septetsOf listedAs among beside mainTable extension mainUnit afterEscape textOf textEscaped packed unpacked streamBit gather cut octetsFor ussdOctets closed addsCr last ussdSeptets opened dropsCr pageOctets page laid withoutClosing beforeKept
+unfolding allHold holds cases times wrote was said coded writeAnswers writeLeaves readAnswers readLeaves verdict writeRules readRules lengthRules sizeRules codingRules textRules octetRules octetReads octetWrites smallest firstPlace numbersFrom readShort readPage bitsOf gather bitOf generalReading noticeReading lastReading classIn discardIn storeIn septetsOf listedAs among beside mainTable extension mainUnit afterEscape textOf textEscaped packed unpacked streamBit cut octetsFor ussdOctets closed addsCr last ussdSeptets opened dropsCr pageOctets page laid withoutClosing beforeKept
 cases-hold = tt

@@ -5,4 +5,3 @@ pub mod Pages
 pub mod UnitOctets
 pub mod Bits
 pub mod Theorems
-pub mod Cases

@@ -4,29 +4,19 @@
 use mathlib.Core.Path.{_≡_, refl, sym, ap, ap₂, _∙_, subst, fun-ext}
 use mathlib.Core.List.{List, [], _∷_}
 use Prim.Native.Nat.{ℕ, zero, suc, _+_, _*_, _-_, _/_, _%_, _^_, _≤_, _<_}
-use native.Mathlib.Nat.{mod-one, mul-assoc, zero-div, div-eq-of-lt, mod-eq-of-lt, add-div-left, add-mod-left, mul-add-div-right, mul-add-mod-self-right, div-one, lt-of-lt-of-le, not-suc-le-zero, le-of-suc-le-suc}
+use native.Mathlib.Nat.{mul-assoc, zero-div, div-eq-of-lt, mod-eq-of-lt, add-div-left, add-mod-left, mul-add-div-right, mul-add-mod-self-right, div-one, lt-of-lt-of-le, not-suc-le-zero, le-of-suc-le-suc}
 use native.Mathlib.Numerals.{add-one}
 use native.Mathlib.Omega.{arith}
 use native.Mathlib.Decide.{decLe}
 use lib.ListN.{length, getD, take}
 use lib.Dec.{lit<}
-use lib.Pow.{pow-pos, pow-mono, pow-add, mod-pow-add, shr-shr, high}
-use Rattle.words.specs.Bits.{bitOf}
+use lib.Pow.{pow-pos, pow-mono, pow-add, shr-shr, high}
+use Rattle.words.specs.Bits.{bitOf, gather}
+use Rattle.words.proofs.Bits.{gather-bits}
 use Rattle.words.proofs.Below.{Below}
-use Rattle.stream.specs.Stream.{streamBit, gather, cut, octetsFor, packed, unpacked}
+use Rattle.stream.specs.Stream.{streamBit, cut, octetsFor, packed, unpacked}
 use Rattle.stream.specs.Inner.{value, digits}
 use Rattle.stream.proofs.Numbers.{pow-mul, digits-below, value-lt, digits-value, value-digits}
-
--- w bits from bit m on, as a number
-pub gather-bits : (v m w : ℕ) → gather (bitOf v) m w ≡ v / 2 ^ m % 2 ^ w
-unfolding gather bitOf
-gather-bits v m zero = sym (mod-one (v / 2 ^ m))
-gather-bits v m (suc w) =
-    let e : gather (bitOf v) (suc m) w ≡ v / 2 ^ m / 2 % 2 ^ w =
-    gather-bits v (suc m) w ∙ ap (λ (k : ℕ). v / 2 ^ k % 2 ^ w) (sym (add-one m)) ∙ ap (λ (k : ℕ). k % 2 ^ w) (sym (shr-shr v m 1)) in
-    let f : v / 2 ^ m % 2 ^ suc w ≡ (v / 2 ^ m / 2 % 2 ^ w) * 2 + v / 2 ^ m % 2 =
-    ap (λ (k : ℕ). v / 2 ^ m % 2 ^ k) (sym (add-one w)) ∙ mod-pow-add (v / 2 ^ m) w 1 in
-    omega (arith, e, f)
 
 -- cutting a number
 cut-bits : (v w m n : ℕ) → cut (bitOf v) w m n ≡ digits (2 ^ w) n (v / 2 ^ m)

@@ -2,7 +2,6 @@
 -- Bit i of septet k is bit 7k + i of the stream; octet j takes bits 8j to 8j + 7, lowest first; spare bits are 0.
 -- Own rule: none. Cited by the definitions of the three packings and of the old page. Assumes nothing.
 --   streamBit w s m == bit m of the stream whose pieces of w bits are s, and 0 past the last piece
---   gather b m w    == the number of w bits whose bit i is b (m + i)
 --   cut b w m n     == n pieces of w bits each, from bit m of the stream b on
 --   octetsFor n     == how many octets n septets take
 --   packed s        == the octets of the septets s
@@ -10,17 +9,12 @@
 use Prim.Native.Nat.{ℕ, zero, suc, _+_, _*_, _/_, _%_}
 use mathlib.Core.List.{List, [], _∷_}
 use lib.ListN.{length, getD}
-use Rattle.words.specs.Bits.{bitOf}
+use Rattle.words.specs.Bits.{bitOf, gather}
 
 -- bit m is bit m % w of piece m / w
 unfoldable pub streamBit : ℕ → List ℕ → ℕ → ℕ
 unfolding bitOf
 streamBit w s m = bitOf (getD s (m / w) 0) (m % w)
-
--- lowest first
-unfoldable pub gather : (ℕ → ℕ) → ℕ → ℕ → ℕ
-gather b m zero = 0
-gather b m (suc w) = b m + 2 * gather b (suc m) w
 
 unfoldable pub cut : (ℕ → ℕ) → ℕ → ℕ → ℕ → List ℕ
 unfolding gather

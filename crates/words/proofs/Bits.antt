@@ -6,22 +6,23 @@ use native.Mathlib.Nat.{mod-one}
 use native.Mathlib.Numerals.{add-one}
 use native.Mathlib.Omega.{arith}
 use lib.Pow.{mod-pow-add, shr-shr}
-use Rattle.words.specs.Bits.{bitOf, bitsFrom, bitsOf}
+use Rattle.words.specs.Bits.{bitOf, gather, bitsOf}
 
 pub bit-number : (x i : ℕ) → bitOf x i ≡ x / 2 ^ i % 2
 unfolding bitOf
 bit-number x i = refl
 
-bits-from : (x lo n : ℕ) → bitsFrom x lo n ≡ x / 2 ^ lo % 2 ^ n
-unfolding bitsFrom bitOf
-bits-from x lo zero = sym (mod-one (x / 2 ^ lo))
-bits-from x lo (suc n) =
-    let higher : bitsFrom x (suc lo) n ≡ x / 2 ^ lo / 2 % 2 ^ n =
-    bits-from x (suc lo) n ∙ ap (λ (k : ℕ). x / 2 ^ k % 2 ^ n) (sym (add-one lo)) ∙ ap (λ (k : ℕ). k % 2 ^ n) (sym (shr-shr x lo 1)) in
-    let whole : x / 2 ^ lo % 2 ^ suc n ≡ (x / 2 ^ lo / 2 % 2 ^ n) * 2 + x / 2 ^ lo % 2 =
-    ap (λ (k : ℕ). x / 2 ^ lo % 2 ^ k) (sym (add-one n)) ∙ mod-pow-add (x / 2 ^ lo) n 1 in
-    omega (arith, higher, whole)
+-- w bits from bit m on, as a number
+pub gather-bits : (v m w : ℕ) → gather (bitOf v) m w ≡ v / 2 ^ m % 2 ^ w
+unfolding gather bitOf
+gather-bits v m zero = sym (mod-one (v / 2 ^ m))
+gather-bits v m (suc w) =
+    let e : gather (bitOf v) (suc m) w ≡ v / 2 ^ m / 2 % 2 ^ w =
+    gather-bits v (suc m) w ∙ ap (λ (k : ℕ). v / 2 ^ k % 2 ^ w) (sym (add-one m)) ∙ ap (λ (k : ℕ). k % 2 ^ w) (sym (shr-shr v m 1)) in
+    let f : v / 2 ^ m % 2 ^ suc w ≡ (v / 2 ^ m / 2 % 2 ^ w) * 2 + v / 2 ^ m % 2 =
+    ap (λ (k : ℕ). v / 2 ^ m % 2 ^ k) (sym (add-one w)) ∙ mod-pow-add (v / 2 ^ m) w 1 in
+    omega (arith, e, f)
 
 pub bits-number : (x hi lo : ℕ) → bitsOf x hi lo ≡ x / 2 ^ lo % 2 ^ (suc hi - lo)
 unfolding bitsOf
-bits-number x hi lo = bits-from x lo (suc hi - lo)
+bits-number x hi lo = gather-bits x lo (suc hi - lo)
