@@ -3,6 +3,7 @@ pub mod Entries
 pub mod Units
 pub mod Septets
 pub mod Rows
+pub mod OwnCodes
 pub mod Distinct
 pub mod Theorems
 pub mod Outcomes

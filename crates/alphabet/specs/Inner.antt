@@ -4,6 +4,8 @@
 --   RightFrom first n t    == t has for each of the n units from first on what the printed tables list
 --   shown code             == the code's unit of the main table, and a space for the escape
 --   RightUnits units       == units has at each code what is shown for it
+--   Own u                  == the unit u is its own code, in an old page too
+--   AllOwn s               == each unit of s is its own code
 --   readAs old septets     == the text of the septets, read as an old page or as the present alphabet
 --   firstRead old s i      == the unit that reading s from place i on gives first
 --   Stepped old s i u next == reading s from place i on gives the unit u first, and goes on at next
@@ -17,7 +19,7 @@ use Rattle.alphabet.specs.declared.Listed.{Listed}
 use Rattle.alphabet.specs.declared.Listed.the-variants.{Unlisted, Main, Extension}
 use Rattle.alphabet.specs.Tables.{escape, space}
 use Rattle.alphabet.specs.Writing.{listedAs}
-use Rattle.alphabet.specs.Reading.{mainUnit, textOf, oldTextOf}
+use Rattle.alphabet.specs.Reading.{mainUnit, oldUnit, textOf, oldTextOf}
 
 -- below 80 a code of the main table, from there on a code after an escape, and FF for an unlisted unit
 unfoldable pub listing : ℕ → Listed
@@ -31,6 +33,16 @@ shown code = cond (eqb code escape) space (mainUnit code)
 
 pub record RightUnits (units : List ℕ) : Type 0 where
   pub at : (code : ℕ) → code < 0x80 → getD units code 0 ≡ shown code
+
+pub record Own (u : ℕ) : Type 0 where
+  pub below : u < 0x80
+  pub written : listedAs u ≡ Main u
+  pub read : mainUnit u ≡ u
+  pub old : oldUnit u ≡ u
+  pub other : u ≡ escape → ⊥
+
+abbrev pub AllOwn : List ℕ → Type 0
+AllOwn s = (k : ℕ) → k < length s → Own (getD s k 0)
 
 unfoldable pub readAs : Bool → List ℕ → List ℕ
 readAs true septets = oldTextOf septets

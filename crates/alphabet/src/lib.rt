@@ -6,6 +6,7 @@ ghost use Rattle.alphabet.specs.Reading.{textOf, oldTextOf, textAnswers,
 use words::Filled;
 use words::Refusal;
 
+mod own;
 mod reading;
 mod tables;
 mod writing;
@@ -49,6 +50,18 @@ pub fn septets_in(text: &[u16]) -> Measured
 // Refuses a text with an unlisted unit (6, the first one), then a buffer that is too short (7).
 // A refusal leaves the buffer as it came, a success touches only the written front.
 pub fn text_to_septets(text: &[u16], out: &mut [u8]) -> Filled
+    ensures answer { λ r. ⌜ r ≡ septetsAnswers (now (text .entry)) (length (now (out .entry))) ⌝ }
+    ensures buffer { λ r. ⌜ now (out .exit) ≡ septetsLeaves (now (text .entry)) (now (out .entry)) ⌝ }
+{
+    if own::odd_units(text) == 0 {
+        own::fill_septets(text, out)
+    } else {
+        septets_by_table(text, out)
+    }
+}
+
+// Text to septets, of any text: each unit by its entry in a table.
+fn septets_by_table(text: &[u16], out: &mut [u8]) -> Filled
     ensures answer { λ r. ⌜ r ≡ septetsAnswers (now (text .entry)) (length (now (out .entry))) ⌝ }
     ensures buffer { λ r. ⌜ now (out .exit) ≡ septetsLeaves (now (text .entry)) (now (out .entry)) ⌝ }
 {
