@@ -4,6 +4,7 @@ pub mod Units
 pub mod Septets
 pub mod Rows
 pub mod OwnCodes
+pub mod Encodings
 pub mod Distinct
 pub mod Theorems
 pub mod Outcomes

@@ -8,7 +8,8 @@ use native.Mathlib.Omega.{arith}
 use lib.Bits.{bitOr, or-add-and, and-le-l, and-le-r}
 use lib.Dec.{T, eqb, ltb, leb, eqb→eq}
 use lib.ListN.{length, getD}
-use borrow.Author.Count.{below-none, below-more}
+use native.Mathlib.Decide.{decLe}
+use borrow.Author.Count.{below-more}
 use borrow.Author.Tests.{lt-leb, le-ltb}
 use Rattle.words.specs.Lists.{firstPlace}
 use Rattle.words.proofs.Places.{place-none}
@@ -17,7 +18,7 @@ use Rattle.alphabet.specs.declared.Listed.the-variants.{Main}
 use Rattle.alphabet.specs.Tables.{escape, mainTable, extension, among, beside}
 use Rattle.alphabet.specs.Writing.{listedAs, isUnlisted, septetsOf, firstUnlisted}
 use Rattle.alphabet.specs.Reading.{mainUnit, oldUnit, textOf, firstWide}
-use Rattle.alphabet.specs.Inner.{Own, AllOwn, readAs}
+use Rattle.alphabet.specs.Inner.{Own, OwnFrom, AllOwn, readAs}
 use Rattle.alphabet.proofs.Entries.{same, same-is}
 use Rattle.alphabet.proofs.Rows.{differ}
 use Rattle.alphabet.proofs.Septets.{text-plain}
@@ -75,15 +76,17 @@ own-by-test ones u {a} {b} {c} {d} some ea eb ec ed none =
     (simp (le-ltb u 0x20 low, le-ltb 0x7a (bitOr u 0x20) high, none-alike ones (eqb u 0x24) some (sym ec ∙ n2 .1), none-alike ones (eqb (bitOr u 0x20) 0x60) some (sym ed ∙ n1 .1))
     at (every-below ownTest 0x80 own-tests u within))
 
--- what a loop over the test knows at each turn: where the bits gathered are none, the first i are their own codes
-abbrev pub OwnBefore : List ℕ → ℕ → ℕ → Type 0
-OwnBefore s i bits = bits ≡ 0 → (k : ℕ) → k < i → Own (getD s k 0)
+-- what a loop over the test knows at each turn: where the bits gathered are none, all from a to i are their own codes
+pub own-none : (s : List ℕ) (a : ℕ) → OwnFrom s a a
+own-none s a k l m = absurd (omega (arith, l, m))
 
-pub own-none : (s : List ℕ) → OwnBefore s 0 0
-own-none s e = below-none (λ (k : ℕ). Own (getD s k 0))
+pub own-more : (s : List ℕ) (a i bits r : ℕ) → (bits ≡ 0 → OwnFrom s a i) → (r ≡ 0 → Own (getD s i 0)) → bitOr bits r ≡ 0 → OwnFrom s a (i + 1)
+own-more s a i bits r before here e =
+    below-more (λ (k : ℕ). a ≤ k → Own (getD s k 0)) i (before (or-none bits r e .0)) (λ m. here (or-none bits r e .1))
 
-pub own-more : (s : List ℕ) (i bits r : ℕ) → OwnBefore s i bits → (r ≡ 0 → Own (getD s i 0)) → OwnBefore s (i + 1) (bitOr bits r)
-own-more s i bits r before here e = below-more (λ (k : ℕ). Own (getD s k 0)) i (before (or-none bits r e .0)) (here (or-none bits r e .1))
+-- one run after another
+pub own-join : (s : List ℕ) (a b : ℕ) → OwnFrom s 0 a → OwnFrom s a b → OwnFrom s 0 b
+own-join s a b front rest k l m = elim (decLe a k) [ yes h ↦ rest k l h | no h ↦ front k (omega (arith, h)) m ]
 
 -- a text of such units is its own septets
 pub own-septets : (t : List ℕ) → AllOwn t → septetsOf t ≡ t

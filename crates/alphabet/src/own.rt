@@ -4,11 +4,11 @@ ghost use mathlib.Core.Path.{_≡_};
 ghost use mathlib.Core.Bool.{cond};
 ghost use Prim.Native.Nat.{_-_, _≤_};
 ghost use lib.Dec.{eqb};
-ghost use lib.ListN.{length};
+ghost use lib.ListN.{length, take};
 ghost use Rattle.words.specs.Lists.{laid};
 ghost use Rattle.alphabet.specs.Writing.{septetsAnswers, septetsLeaves};
 ghost use Rattle.alphabet.specs.Reading.{textAnswers, textLeaves};
-ghost use Rattle.alphabet.specs.Inner.{Own, AllOwn, readAs};
+ghost use Rattle.alphabet.specs.Inner.{Own, OwnFrom, AllOwn, readAs};
 use words::Filled;
 use words::Refusal;
 
@@ -57,17 +57,36 @@ fn odd_septet(septet: u8) -> u8
         | alike_octet(small, 0x60)
 }
 
-// 0 only for a text of which each unit is its own code.
-pub(crate) fn odd_units(text: &[u16]) -> u16
-    ensures { λ r. ⌜ (r ≡ 0 → AllOwn (now (text .entry))) ⌝ }
+// 0 only for units of which each is its own code, from one place to another.
+fn odd_units(text: &[u16], from: usize, to: usize) -> u16
+    requires { ⌜ (from ≤ to) × (to ≤ length (now text)) ⌝ }
+    ensures { λ r. ⌜ (r ≡ 0 → OwnFrom (now (text .entry)) from to) ⌝ }
 {
     let mut bits: u16 = 0;
-    let mut i: usize = 0;
-    while i < text.len() {
+    let mut i: usize = from;
+    while i < to {
         bits = bits | odd_unit(text[i]);
         i += 1;
     }
     bits
+}
+
+// How many units at the front of a text are their own codes: all of them, or some multiple of 32 before the first that is not.
+pub(crate) fn own_front(text: &[u16]) -> usize
+    ensures { λ r. ⌜ (r ≤ length (now (text .entry))) × OwnFrom (now (text .entry)) 0 r ⌝ }
+{
+    let mut n: usize = 0;
+    while 32 <= text.len() - n {
+        let next = n + 32;
+        if odd_units(text, n, next) != 0 {
+            return n;
+        }
+        n = next;
+    }
+    if odd_units(text, n, text.len()) != 0 {
+        return n;
+    }
+    text.len()
 }
 
 // 0 only for septets of which each is its own unit.
@@ -83,14 +102,14 @@ pub(crate) fn odd_septets(septets: &[u8]) -> u8
     bits
 }
 
-// Lays the units over the front of the buffer as septets.
-fn copy_units(text: &[u16], out: &mut [u8])
-    requires { ⌜ AllOwn (now text) ⌝ }
-    requires { ⌜ length (now text) ≤ length (now out) ⌝ }
-    ensures { λ r. ⌜ now (out .exit) ≡ laid (now (text .entry)) (now (out .entry)) ⌝ }
+// Lays the first n units over the front of the buffer as septets.
+pub(crate) fn copy_units(text: &[u16], n: usize, out: &mut [u8])
+    requires { ⌜ OwnFrom (now text) 0 n ⌝ }
+    requires { ⌜ (n ≤ length (now text)) × (n ≤ length (now out)) ⌝ }
+    ensures { λ r. ⌜ now (out .exit) ≡ laid (take n (now (text .entry))) (now (out .entry)) ⌝ }
 {
     let mut i: usize = 0;
-    while i < text.len() {
+    while i < n {
         out[i] = text[i] as u8;
         i += 1;
     }
@@ -119,7 +138,7 @@ pub(crate) fn fill_septets(text: &[u16], out: &mut [u8]) -> Filled
     if out.len() < n {
         return Filled::Refused(Refusal::NoRoom);
     }
-    copy_units(text, out);
+    copy_units(text, n, out);
     Filled::Done(n)
 }
 

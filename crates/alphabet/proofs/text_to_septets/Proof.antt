@@ -1,14 +1,17 @@
 -- `alphabet::text_to_septets` meets its contract: each way has it.
 -- Assumes nothing.
+use native.Mathlib.Omega.{arith}
 use borrow.Author.Needs.{needs}
 use Rattle.alphabet.proofs.text_to_septets.Statement.{statement}
 use Rattle.alphabet.proofs.text_to_septets.Tie as tie
 
-odd-units-requires : tie.Need-odd-units-requires
-odd-units-requires c κs = search needs
+own-front-requires : tie.Need-own-front-requires
+own-front-requires c κs = search needs
 
 fill-septets-requires : tie.Need-fill-septets-requires
-fill-septets-requires c κs = c .before .before .odd-units .ensures (c .before .if1 .taken)
+fill-septets-requires c κs =
+    let front = c .before .before in
+    λ k l. front .own-front .ensures .1 k (omega (arith, l, c .before .if1 .taken)) (omega arith)
 
 septets-by-table-requires : tie.Need-septets-by-table-requires
 septets-by-table-requires c κs = search needs
@@ -29,7 +32,7 @@ pub text-to-septets-spec : {M : Type 1} → statement M
 text-to-septets-spec =
     tie.close
     (tie.spec
-    odd-units-requires
+    own-front-requires
     fill-septets-requires
     septets-by-table-requires
     same-length
