@@ -71,13 +71,13 @@ fn odd_units(text: &[u16], from: usize, to: usize) -> u16
     bits
 }
 
-// How many units at the front of a text are their own codes: all of them, or some multiple of 32 before the first that is not.
+// How many units at the front of a text are their own codes: all of them, or some multiple of 16 before the first that is not.
 pub(crate) fn own_front(text: &[u16]) -> usize
     ensures { λ r. ⌜ (r ≤ length (now (text .entry))) × OwnFrom (now (text .entry)) 0 r ⌝ }
 {
     let mut n: usize = 0;
-    while 32 <= text.len() - n {
-        let next = n + 32;
+    while 16 <= text.len() - n {
+        let next = n + 16;
         if odd_units(text, n, next) != 0 {
             return n;
         }

@@ -36,7 +36,7 @@ loop-less c = search needs
 loop-again : tie.Need-loop-again Inv-loop μ-loop
 loop-again c =
     let at = c .before .before .before in
-    (search needs, own-join (at .before .before .args .text .now) (at .loop .n) (at .loop .n + 32) (at .loop .inv .1) (c .before .odd-units .ensures (c .if1 .left)))
+    (search needs, own-join (at .before .before .args .text .now) (at .loop .n) (at .loop .n + 16) (at .loop .inv .1) (c .before .odd-units .ensures (c .if1 .left)))
 
 odd-units-requires-2 : tie.Need-odd-units-requires-2 Inv-loop μ-loop
 odd-units-requires-2 c κs = search needs
