@@ -71,14 +71,14 @@ fn septets_by_table(text: &[u16], front: usize, out: &mut [u8]) -> Filled
 {
     let low = tables::low_table();
     if front <= 182 {
-        let e = writing::encode(text, front, &low);
+        let mut septets = [0u8; 184];
+        let e = writing::encode(text, front, &low, &mut septets);
         let i = e.i;
         let n = e.n;
         if i == text.len() {
             if out.len() < n {
                 return Filled::Refused(Refusal::NoRoom);
             }
-            let septets = e.septets;
             writing::store(&septets, n, out);
             return Filled::Done(n);
         }

@@ -31,38 +31,29 @@ pub(crate) fn measure(text: &[u16], low: &[u8; 256]) -> Measured
     Measured::Septets(count)
 }
 
-// The septets of the first i units of a text, n of them.
+// How far a text was encoded: its first i units, in n septets.
 pub(crate) struct Encoded {
-    pub(crate) septets: [u8; 184],
     pub(crate) n: usize,
     pub(crate) i: usize,
 }
 
-// Encodes a text whose first units are their own codes into an array, up to its end, its first unlisted unit, or the array's last octets.
-pub(crate) fn encode(text: &[u16], front: usize, low: &[u8; 256]) -> Encoded
+// Encodes a text whose first units are their own codes into a room for 184 septets, up to its end, its first unlisted unit, or the last
+// octets of the room.
+pub(crate) fn encode(text: &[u16], front: usize, low: &[u8; 256], septets: &mut [u8]) -> Encoded
     requires { ⌜ RightFrom 0 0x100 (now low) ⌝ }
-    requires { ⌜ (front ≤ 182) × (front ≤ length (now text)) × OwnFrom (now text) 0 front ⌝ }
-    ensures { λ r. ⌜ Encoding (now (text .entry)) (r .septets) (r .n) (r .i) ⌝ }
+    requires { ⌜ (front ≤ 182) × (front ≤ length (now text)) × OwnFrom (now text) 0 front × (length (now septets) ≡ 184) ⌝ }
+    ensures { λ r. ⌜ Encoding (now (text .entry)) (now (septets .exit)) (r .n) (r .i) ⌝ }
 {
-    let mut septets = [0u8; 184];
-    own::copy_units(text, front, &mut septets);
+    own::copy_units(text, front, septets);
     let mut n = front;
     let mut i = front;
     while i < text.len() {
         let entry = tables::entry_of(text[i], low);
         if entry == 0xff {
-            return Encoded {
-                septets: septets,
-                n: n,
-                i: i,
-            };
+            return Encoded { n: n, i: i };
         }
         if 182 < n {
-            return Encoded {
-                septets: septets,
-                n: n,
-                i: i,
-            };
+            return Encoded { n: n, i: i };
         }
         if entry < 0x80 {
             septets[n] = entry;
@@ -74,11 +65,7 @@ pub(crate) fn encode(text: &[u16], front: usize, low: &[u8; 256]) -> Encoded
         }
         i += 1;
     }
-    Encoded {
-        septets: septets,
-        n: n,
-        i: i,
-    }
+    Encoded { n: n, i: i }
 }
 
 // Lays the first n septets of an array over the front of the buffer.

@@ -18,14 +18,17 @@ use Rattle.alphabet.proofs.septets_by_table.Tie as tie
 low-table-requires : tie.Need-low-table-requires
 low-table-requires c κs = search needs
 
+slice-aggregate-encode : tie.Need-slice-aggregate-encode
+slice-aggregate-encode c = search needs
+
 encode-requires : tie.Need-encode-requires
 encode-requires c κs = search needs
 
 returns : tie.Need-returns
 unfolding septetsRules septetsAnswers septetsLeaves
 returns c =
-    let encode = c .before .before in
-    let a = encode .before .before .before .before .before .before .args in
+    let encode = c .before .before .before in
+    let a = encode .before .before .before .before .before .before .before .args in
     let whole : length (a .text .now) ≤ encode .encode .result .i = omega (arith, c .before .if2 .taken) in
     let few : length (a .out .now) < length (septetsOf (a .text .now)) = omega (arith, c .if3 .taken, encoded-count (encode .encode .ensures) whole) in
     fills-short _ _ (septetsOf (a .text .now)) (a .out .now) (encoded-listed (encode .encode .ensures) whole) few
@@ -39,9 +42,9 @@ same-length c = search needs
 returns-2 : tie.Need-returns-2
 unfolding septetsRules septetsAnswers septetsLeaves
 returns-2 c =
-    let room = c .before .before .before .before .before .before in
-    let encode = room .before .before in
-    let a = encode .before .before .before .before .before .before .args in
+    let room = c .before .before .before .before .before in
+    let encode = room .before .before .before in
+    let a = encode .before .before .before .before .before .before .before .args in
     let e = encode .encode .ensures in
     let whole : length (a .text .now) ≤ encode .encode .result .i = omega (arith, room .before .if2 .taken) in
     let fits : length (septetsOf (a .text .now)) ≤ length (a .out .now) = omega (arith, room .if3 .left, encoded-count e whole) in
@@ -60,8 +63,8 @@ entry-of-requires c κs = search needs
 returns-3 : tie.Need-returns-3
 unfolding septetsRules septetsAnswers septetsLeaves
 returns-3 c =
-    let encode = c .before .before .before .before .before in
-    let a = encode .before .before .before .before .before .before .args in
+    let encode = c .before .before .before .before .before .before in
+    let a = encode .before .before .before .before .before .before .before .args in
     let e = encode .encode .ensures in
     let i : ℕ = encode .encode .result .i in
     let here : i < length (a .text .now) = omega (arith, e .within, c .before .before .before .before .if2 .left) in
@@ -82,6 +85,7 @@ septets-by-table-spec =
     tie.close
     (tie.spec
     low-table-requires
+    slice-aggregate-encode
     encode-requires
     returns
     store-requires

@@ -1,10 +1,10 @@
--- `alphabet::writing::encode` meets its contract. The invariant: the array holds the septets of the units taken, which are all listed.
+-- `alphabet::writing::encode` meets its contract. The invariant: the room holds the septets of the units taken, which are all listed.
 -- Assumes nothing.
-use mathlib.Core.Path.{refl, _∙_}
+use mathlib.Core.Path.{_∙_}
 use mathlib.Core.Logic.{⊎-elim}
 use Prim.Native.Nat.{_-_}
 use native.Mathlib.Omega.{arith}
-use lib.ListN.{length, replicate}
+use lib.ListN.{length, length-set}
 use borrow.Author.Needs.{needs}
 use Rattle.alphabet.specs.Inner.{Encoding}
 use Rattle.alphabet.proofs.Entries.{entry-main, entry-extension}
@@ -18,16 +18,13 @@ Inv-loop text front low septets₀ n₀ i₀ septets n i = Encoding text septets
 abbrev μ-loop : tie.MeasureT-loop
 μ-loop text front low septets₀ n₀ i₀ septets n i = length text - i
 
-slice-aggregate-copy-units : tie.Need-slice-aggregate-copy-units Inv-loop μ-loop
-slice-aggregate-copy-units c = search needs
-
 copy-units-requires : tie.Need-copy-units-requires Inv-loop μ-loop
-copy-units-requires c κs = let start = c .before .before in (start .pre .1 .2, (start .pre .1 .1, omega (arith, start .pre .1 .0)))
+copy-units-requires c κs = let start = c .before .before .before in (start .pre .1 .2, (start .pre .1 .1, omega (arith, start .pre .1 .0, start .pre .1 .3)))
 
 loop-holds : tie.Need-loop-holds Inv-loop μ-loop
 loop-holds c =
-    let start = c .before .before .before .before in
-    encoding-front (start .args .text .now) (replicate 184 0) (start .args .front) (start .pre .1 .0) (start .pre .1 .1) (start .pre .1 .2) refl (c .before .copy-units .ensures)
+    let start = c .before .before .before .before .before .before in
+    encoding-front (start .args .text .now) (start .args .septets .now) (start .args .front) (start .pre .1 .0) (start .pre .1 .1) (start .pre .1 .2) (start .pre .1 .3) (c .before .before .copy-units .ensures)
 
 mul-entry-of : tie.Need-mul-entry-of Inv-loop μ-loop
 mul-entry-of c = search needs
@@ -36,28 +33,34 @@ shared-slice-read-entry-of : tie.Need-shared-slice-read-entry-of Inv-loop μ-loo
 shared-slice-read-entry-of c = search needs
 
 entry-of-requires : tie.Need-entry-of-requires Inv-loop μ-loop
-entry-of-requires c κs = c .before .before .before .before .before .before .before .pre .0
+entry-of-requires c κs = c .before .before .before .before .before .before .before .before .before .pre .0
+
+same-length : tie.Need-same-length Inv-loop μ-loop
+same-length c = omega (arith, c .before .before .before .before .loop .inv .size, c .before .before .before .before .before .before .before .before .before .before .before .pre .1 .3)
 
 returns : tie.Need-returns Inv-loop μ-loop
 returns c = c .before .before .before .before .loop .inv
 
+same-length-2 : tie.Need-same-length-2 Inv-loop μ-loop
+same-length-2 c = omega (arith, c .before .before .before .before .before .loop .inv .size, c .before .before .before .before .before .before .before .before .before .before .before .before .pre .1 .3)
+
 returns-2 : tie.Need-returns-2 Inv-loop μ-loop
 returns-2 c = c .before .before .before .before .before .loop .inv
 
-array-write-septets : tie.Need-array-write-septets Inv-loop μ-loop
-array-write-septets c = search needs
+slice-write-septets : tie.Need-slice-write-septets Inv-loop μ-loop
+slice-write-septets c = omega (arith, c .before .before .before .before .before .before .loop .inv .size, c .before .if2 .left)
 
 add-n : tie.Need-add-n Inv-loop μ-loop
 add-n c = search needs
 
-array-write-septets-2 : tie.Need-array-write-septets-2 Inv-loop μ-loop
-array-write-septets-2 c = search needs
+slice-write-septets-2 : tie.Need-slice-write-septets-2 Inv-loop μ-loop
+slice-write-septets-2 c = omega (arith, c .before .before .before .before .before .before .loop .inv .size, c .before .if2 .left)
 
 add-septets : tie.Need-add-septets Inv-loop μ-loop
 add-septets c = search needs
 
-array-write-septets-3 : tie.Need-array-write-septets-3 Inv-loop μ-loop
-array-write-septets-3 c = search needs
+slice-write-septets-3 : tie.Need-slice-write-septets-3 Inv-loop μ-loop
+slice-write-septets-3 c = let at = c .before .before .before .before .before .before in omega (arith, at .loop .inv .size, length-set (at .loop .septets) (at .loop .n) 0x1b, c .before .if2 .left)
 
 add-n-2 : tie.Need-add-n-2 Inv-loop μ-loop
 add-n-2 c = search needs
@@ -78,6 +81,9 @@ loop-again c =
     (λ w. encoding-moved (encode-extension e (in-loop .loop-test .taken) (c .before .if2 .left) (k - 0x80) (entry-extension k _ (entry .entry-of .ensures) (w .0 .left) (omega (arith, c .before .before .if1 .left, entry .entry-of .ok)))) (w .2 ∙ omega arith) (w .1))
     (c .if3 .came)
 
+same-length-3 : tie.Need-same-length-3 Inv-loop μ-loop
+same-length-3 c = omega (arith, c .before .loop .inv .size, c .before .before .before .before .before .before .before .before .pre .1 .3)
+
 returns-3 : tie.Need-returns-3 Inv-loop μ-loop
 returns-3 c = c .before .loop .inv
 
@@ -87,21 +93,23 @@ encode-spec =
     (tie.spec
     Inv-loop
     μ-loop
-    slice-aggregate-copy-units
     copy-units-requires
     loop-holds
     mul-entry-of
     shared-slice-read-entry-of
     entry-of-requires
+    same-length
     returns
+    same-length-2
     returns-2
-    array-write-septets
+    slice-write-septets
     add-n
-    array-write-septets-2
+    slice-write-septets-2
     add-septets
-    array-write-septets-3
+    slice-write-septets-3
     add-n-2
     add-i
     loop-less
     loop-again
+    same-length-3
     returns-3)
