@@ -88,6 +88,11 @@ own-more s a i bits r before here e =
 pub own-join : (s : List ℕ) (a b : ℕ) → OwnFrom s 0 a → OwnFrom s a b → OwnFrom s 0 b
 own-join s a b front rest k l m = elim (decLe a k) [ yes h ↦ rest k l h | no h ↦ front k (omega (arith, h)) m ]
 
+-- two runs that meet or overlap
+pub own-both : (s : List ℕ) (a b c d r q : ℕ) → (r ≡ 0 → OwnFrom s a b) → (q ≡ 0 → OwnFrom s c d) → c ≤ b → bitOr r q ≡ 0 → OwnFrom s a d
+own-both s a b c d r q one two meet e k l m =
+    elim (decLe b k) [ yes h ↦ two (or-none r q e .1) k l (omega (arith, h, meet)) | no h ↦ one (or-none r q e .0) k (omega (arith, h)) m ]
+
 -- a text of such units is its own septets
 pub own-septets : (t : List ℕ) → AllOwn t → septetsOf t ≡ t
 unfolding septetsOf

@@ -2,7 +2,7 @@
 // A loop over the test vectorises, eight units or sixteen septets at a time.
 ghost use mathlib.Core.Path.{_≡_};
 ghost use mathlib.Core.Bool.{cond};
-ghost use Prim.Native.Nat.{_-_, _≤_};
+ghost use Prim.Native.Nat.{_+_, _-_, _≤_};
 ghost use lib.Dec.{eqb};
 ghost use lib.ListN.{length, take};
 ghost use Rattle.words.specs.Lists.{laid};
@@ -83,10 +83,27 @@ pub(crate) fn own_front(text: &[u16]) -> usize
         }
         n = next;
     }
-    if odd_units(text, n, text.len()) != 0 {
+    if odd_end(text, n) != 0 {
         return n;
     }
     text.len()
+}
+
+// 0 only for units of which each is its own code, from a place among the last sixteen on. Eight at a time, the last eight over again where
+// they overlap: a loop over fewer would go unit by unit.
+fn odd_end(text: &[u16], n: usize) -> u16
+    requires { ⌜ (n ≤ length (now text)) × (length (now text) ≤ n + 16) ⌝ }
+    ensures { λ r. ⌜ (r ≡ 0 → OwnFrom (now (text .entry)) n (length (now (text .entry)))) ⌝ }
+{
+    let len = text.len();
+    if len < 8 {
+        return odd_units(text, n, len);
+    }
+    let last = odd_units(text, len - 8, len);
+    if 8 < len - n {
+        return odd_units(text, n, n + 8) | last;
+    }
+    last
 }
 
 // 0 only for septets of which each is its own unit.

@@ -38,8 +38,8 @@ loop-again c =
     let at = c .before .before .before in
     (search needs, own-join (at .before .before .args .text .now) (at .loop .n) (at .loop .n + 16) (at .loop .inv .1) (c .before .odd-units .ensures (c .if1 .left)))
 
-odd-units-requires-2 : tie.Need-odd-units-requires-2 Inv-loop μ-loop
-odd-units-requires-2 c κs = search needs
+odd-end-requires : tie.Need-odd-end-requires Inv-loop μ-loop
+odd-end-requires c κs = search needs
 
 returns-2 : tie.Need-returns-2 Inv-loop μ-loop
 returns-2 c = c .before .before .before .loop .inv
@@ -48,7 +48,7 @@ returns-3 : tie.Need-returns-3 Inv-loop μ-loop
 returns-3 c =
     let at = c .before .before .before in
     let t = at .before .before .args .text .now in
-    (search needs, own-join t (at .loop .n) (length t) (at .loop .inv .1) (c .before .odd-units2 .ensures (c .if2 .left)))
+    (search needs, own-join t (at .loop .n) (length t) (at .loop .inv .1) (c .before .odd-end .ensures (c .if2 .left)))
 
 pub own-front-spec : {M : Type 1} → statement M
 own-front-spec =
@@ -63,6 +63,6 @@ own-front-spec =
     returns
     loop-less
     loop-again
-    odd-units-requires-2
+    odd-end-requires
     returns-2
     returns-3)
