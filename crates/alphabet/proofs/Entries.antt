@@ -32,7 +32,7 @@ same (Extension a) Unlisted = false
 same (Extension a) (Main b) = false
 same (Extension a) (Extension b) = eqb a b
 
-same-is : (l m : Listed) → T (same l m) → l ≡ m
+pub same-is : (l m : Listed) → T (same l m) → l ≡ m
 same-is Unlisted Unlisted t = refl
 same-is Unlisted (Main b) t = absurd t
 same-is Unlisted (Extension b) t = absurd t

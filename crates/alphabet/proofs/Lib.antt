@@ -3,6 +3,8 @@ pub mod Entries
 pub mod Units
 pub mod Septets
 pub mod Rows
+pub mod OwnCodes
+pub mod Encodings
 pub mod Distinct
 pub mod Theorems
 pub mod Outcomes

@@ -23,7 +23,7 @@ ReadsAs Unlisted unit = Unit
 ReadsAs (Main code) unit = (code < 128) × (code ≡ escape → ⊥) × (mainUnit code ≡ unit)
 ReadsAs (Extension code) unit = (code < 128) × (code ≡ escape → ⊥) × (code ≡ 0x0d → ⊥) × (afterEscape code ≡ unit)
 
-differ : (m n : ℕ) → T (not (eqb m n)) → m ≡ n → ⊥
+pub differ : (m n : ℕ) → T (not (eqb m n)) → m ≡ n → ⊥
 differ m n t e = T-not (eqb m n) t (subst (λ (x : ℕ). T (eqb m x)) e (eqb-refl m))
 
 abbrev rowReads : (ℕ → ℕ) → ℕ → ℕ → Bool

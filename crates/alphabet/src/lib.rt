@@ -2,10 +2,13 @@
 ghost use mathlib.Core.Path.{_≡_};
 ghost use lib.ListN.{length};
 ghost use Rattle.alphabet.specs.Writing.{listedAs, measured, septetsAnswers, septetsLeaves};
+ghost use Prim.Native.Nat.{_≤_};
+ghost use Rattle.alphabet.specs.Inner.{RightFrom, OwnFrom};
 ghost use Rattle.alphabet.specs.Reading.{textOf, oldTextOf, textAnswers, textLeaves};
 use words::Filled;
 use words::Refusal;
 
+mod own;
 mod reading;
 mod tables;
 mod writing;
@@ -52,15 +55,54 @@ pub fn text_to_septets(text: &[u16], out: &mut [u8]) -> Filled
     ensures answer { λ r. ⌜ r ≡ septetsAnswers (now (text .entry)) (length (now (out .entry))) ⌝ }
     ensures buffer { λ r. ⌜ now (out .exit) ≡ septetsLeaves (now (text .entry)) (now (out .entry)) ⌝ }
 {
+    let front = own::own_front(text);
+    if front == text.len() {
+        own::fill_septets(text, out)
+    } else {
+        septets_by_table(text, front, out)
+    }
+}
+
+// Text to septets, of a text whose first units are their own codes: the others by a table, in one pass into an array of our own.
+fn septets_by_table(text: &[u16], front: usize, out: &mut [u8]) -> Filled
+    requires { ⌜ (front ≤ length (now text)) × OwnFrom (now text) 0 front ⌝ }
+    ensures answer { λ r. ⌜ r ≡ septetsAnswers (now (text .entry)) (length (now (out .entry))) ⌝ }
+    ensures buffer { λ r. ⌜ now (out .exit) ≡ septetsLeaves (now (text .entry)) (now (out .entry)) ⌝ }
+{
     let low = tables::low_table();
-    let length = writing::measure(text, &low);
+    if front <= 182 {
+        let mut septets = [0u8; 184];
+        let e = writing::encode(text, front, &low, &mut septets);
+        let i = e.i;
+        let n = e.n;
+        if i == text.len() {
+            if out.len() < n {
+                return Filled::Refused(Refusal::NoRoom);
+            }
+            writing::store(&septets, n, out);
+            return Filled::Done(n);
+        }
+        if tables::entry_of(text[i], &low) == 0xff {
+            return Filled::Refused(Refusal::Unlisted { unit: i });
+        }
+    }
+    long_by_table(text, &low, out)
+}
+
+// Text to septets, of a text that is too long for the array: one pass judges and counts, one stores.
+fn long_by_table(text: &[u16], low: &[u8; 256], out: &mut [u8]) -> Filled
+    requires { ⌜ RightFrom 0 0x100 (now low) ⌝ }
+    ensures answer { λ r. ⌜ r ≡ septetsAnswers (now (text .entry)) (length (now (out .entry))) ⌝ }
+    ensures buffer { λ r. ⌜ now (out .exit) ≡ septetsLeaves (now (text .entry)) (now (out .entry)) ⌝ }
+{
+    let length = writing::measure(text, low);
     match length {
         Measured::Stopped(unit) => Filled::Refused(Refusal::Unlisted { unit }),
         Measured::Septets(n) => {
             if out.len() < n {
                 return Filled::Refused(Refusal::NoRoom);
             }
-            writing::lay_septets(text, &low, out);
+            writing::lay_septets(text, low, out);
             Filled::Done(n)
         }
     }

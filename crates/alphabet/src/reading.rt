@@ -5,6 +5,7 @@ ghost use lib.ListN.{length};
 ghost use Rattle.words.specs.Lists.{laid};
 ghost use Rattle.alphabet.specs.Reading.{firstWide, textAnswers, textLeaves};
 ghost use Rattle.alphabet.specs.Inner.{RightUnits, readAs, firstRead, Stepped};
+use crate::own;
 use crate::tables;
 use words::Filled;
 use words::Refusal;
@@ -111,8 +112,20 @@ fn lay_text(septets: &[u8], old: bool, out: &mut [u16]) -> usize
     n
 }
 
-// Units are never more than septets, so only a buffer that is shorter than those is measured.
+// Septets to text: septets that are their own units are copied, others are read by a table.
 pub(crate) fn read_text(septets: &[u8], old: bool, out: &mut [u16]) -> Filled
+    ensures answer { λ r. ⌜ r ≡ textAnswers (now (septets .entry)) (readAs old (now (septets .entry))) (length (now (out .entry))) ⌝ }
+    ensures buffer { λ r. ⌜ now (out .exit) ≡ textLeaves (now (septets .entry)) (readAs old (now (septets .entry))) (now (out .entry)) ⌝ }
+{
+    if own::odd_septets(septets) == 0 {
+        own::fill_text(septets, old, out)
+    } else {
+        read_by_table(septets, old, out)
+    }
+}
+
+// Units are never more than septets, so only a buffer that is shorter than those is measured.
+fn read_by_table(septets: &[u8], old: bool, out: &mut [u16]) -> Filled
     ensures answer { λ r. ⌜ r ≡ textAnswers (now (septets .entry)) (readAs old (now (septets .entry))) (length (now (out .entry))) ⌝ }
     ensures buffer { λ r. ⌜ now (out .exit) ≡ textLeaves (now (septets .entry)) (readAs old (now (septets .entry))) (now (out .entry)) ⌝ }
 {

@@ -1,3 +1,4 @@
+pub mod Folds
 pub mod Given
 pub mod Calls
 pub mod RoundTrips

@@ -49,16 +49,71 @@ pub(crate) fn spread(v: u64, out: &mut [u8], at: usize, n: usize, u: usize)
     }
 }
 
-// Whole groups: u pieces of w bits hold the bits of w pieces of u bits.
+// Eight septets that lie apart, one in each octet of x, moved together: neighbours first, then pairs, then fours.
+// What is taken off moves the upper of two down; a mask and an or would have the compiler load and store octet by octet.
+fn squeeze(x: u64) -> u64
+    requires { ⌜ ((k : ℕ) → getD (digits 256 8 x) k 0 < 128) ⌝ }
+    ensures { λ r. ⌜ r ≡ value 128 (digits 256 8 x) ⌝ }
+{
+    let pairs = x - 0x80 * ((x >> 8) & 0x007f007f007f007f);
+    let fours = pairs - 0xc000 * ((pairs >> 16) & 0x00003fff00003fff);
+    fours - 0xf0000000 * (fours >> 32)
+}
+
+// The way back: eight septets that lie together, moved apart, one into each octet.
+fn stretch(v: u64) -> u64
+    requires { ⌜ v < 2 ^ 56 ⌝ }
+    ensures { λ r. ⌜ r ≡ value 256 (digits 128 8 v) ⌝ }
+{
+    let fours = v + 0xf0000000 * (v >> 28);
+    let pairs = fours + 0xc000 * ((fours >> 14) & 0x00003fff00003fff);
+    pairs + 0x80 * ((pairs >> 7) & 0x007f007f007f007f)
+}
+
+// Eight septets from from on as seven octets from to on.
+fn pack_group(septets: &[u8], from: usize, out: &mut [u8], to: usize)
+    requires { ⌜ ((k : ℕ) → getD (now septets) k 0 < 128) ⌝ }
+    requires { ⌜ (from + 8 ≤ length (now septets)) × (to + 7 ≤ length (now out)) ⌝ }
+    ensures { λ _. ⌜ now (out .exit) ≡ take to (now (out .entry)) ++ digits 256 7 (value 128 (take 8 (drop from (now (septets .entry))))) ++ drop (to + 7) (now (out .entry)) ⌝ }
+{
+    let x = join(septets, from, 8, 8);
+    let v = squeeze(x);
+    spread(v, out, to, 7, 8);
+}
+
+// Seven octets from from on as eight septets from to on.
+fn unpack_group(octets: &[u8], from: usize, out: &mut [u8], to: usize)
+    requires { ⌜ ((k : ℕ) → getD (now octets) k 0 < 256) ⌝ }
+    requires { ⌜ (from + 7 ≤ length (now octets)) × (to + 8 ≤ length (now out)) ⌝ }
+    ensures { λ _. ⌜ now (out .exit) ≡ take to (now (out .entry)) ++ digits 128 8 (value 256 (take 7 (drop from (now (octets .entry))))) ++ drop (to + 8) (now (out .entry)) ⌝ }
+{
+    let v = join(octets, from, 7, 8);
+    let x = stretch(v);
+    spread(x, out, to, 8, 8);
+}
+
+// u pieces of w bits from from on as w pieces of u bits from to on.
+fn recut_group(pieces: &[u8], w: usize, from: usize, out: &mut [u8], u: usize, to: usize)
+    requires { ⌜ ((k : ℕ) → getD (now pieces) k 0 < 2 ^ w) ⌝ }
+    requires { ⌜ (from + u ≤ length (now pieces)) × (to + w ≤ length (now out)) × (7 ≤ w) × (w + u ≡ 15) × (w ≤ 8) ⌝ }
+    ensures { λ _. ⌜ now (out .exit) ≡ take to (now (out .entry)) ++ digits (2 ^ u) w (value (2 ^ w) (take u (drop from (now (pieces .entry))))) ++ drop (to + w) (now (out .entry)) ⌝ }
+{
+    if w == 7 {
+        pack_group(pieces, from, out, to);
+    } else {
+        unpack_group(pieces, from, out, to);
+    }
+}
+
+// Whole groups: eight septets to seven octets or back, u pieces of w bits to w pieces of u bits.
 pub(crate) fn recut(pieces: &[u8], w: usize, groups: usize, out: &mut [u8], u: usize)
     requires { ⌜ ((k : ℕ) → getD (now pieces) k 0 < 2 ^ w) ⌝ }
-    requires { ⌜ (u * groups ≤ length (now pieces)) × (w * groups ≤ length (now out)) × (w ≤ 8) × (u ≤ 8) ⌝ }
+    requires { ⌜ (u * groups ≤ length (now pieces)) × (w * groups ≤ length (now out)) × (7 ≤ w) × (w + u ≡ 15) × (w ≤ 8) ⌝ }
     ensures { λ _. ⌜ now (out .exit) ≡ laid (digits (2 ^ u) (w * groups) (value (2 ^ w) (take (u * groups) (now (pieces .entry))))) (now (out .entry)) ⌝ }
 {
     let mut g: usize = 0;
     while g < groups {
-        let v = join(pieces, u * g, u, w);
-        spread(v, out, w * g, w, u);
+        recut_group(pieces, w, u * g, out, u, w * g);
         g += 1;
     }
 }

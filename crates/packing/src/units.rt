@@ -85,12 +85,14 @@ pub(crate) fn page_kept(octets: &[u8]) -> usize
     n
 }
 
-// The unit at a place.
+// The unit at a place: its octets as one number, low octet first, and that twice over and shifted down turns them. Read high octet first
+// they would be loaded one by one.
 fn unit_at(octets: &[u8], i: usize) -> u16
     requires { ⌜ 2 * i + 1 < length (now octets) ⌝ }
     ensures { λ r. ⌜ r ≡ getD (octetUnits (now (octets .entry))) i 0 ⌝ }
 {
-    ((octets[2 * i] as u16) << 8) | (octets[2 * i + 1] as u16)
+    let turned = (octets[2 * i] as u32) + 256 * (octets[2 * i + 1] as u32);
+    (turned * 0x10001 / 256 % 0x10000) as u16
 }
 
 // Stores the first n units that octets hold.

@@ -2,13 +2,11 @@
 -- Assumes nothing.
 use mathlib.Core.Path.{_≡_, refl, sym, ap, ap₂, _∙_}
 use mathlib.Core.List.{List, [], _∷_}
-use Prim.Native.Nat.{ℕ, zero, suc, _+_, _-_, _*_, _/_, _%_, _^_, _≤_, _<_}
+use Prim.Native.Nat.{ℕ, zero, suc, _+_, _-_, _*_, _/_, _%_, _≤_, _<_}
 use native.Mathlib.Nat.{not-suc-le-zero, le-of-suc-le-suc}
 use native.Mathlib.Numerals.{add-one}
 use native.Mathlib.Omega.{arith}
-use lib.Bits.{bitOr, or-shifted}
-use lib.Pow.{shl-exact}
-use lib.Dec.{lit≤}
+use lib.Arith.{digits-mod}
 use lib.ListN.{length, getD, drop}
 use Rattle.words.proofs.Below.{Below}
 use Rattle.stream.specs.Ucs2.{unitOctets, octetUnits}
@@ -62,9 +60,11 @@ unit-octets-below (u ∷ us) h zero = omega (arith, h 0)
 unit-octets-below (u ∷ us) h (suc zero) = omega arith
 unit-octets-below (u ∷ us) h (suc (suc k)) = unit-octets-below us (λ i. h (suc i)) k
 
--- a unit by a shift: the high octet above the low one
-pub unit-joined : (high low : ℕ) → high < 256 → low < 256 → bitOr (high * 2 ^ 8 % 2 ^ 16) low ≡ 256 * high + low
-unit-joined high low h l = ap (λ (x : ℕ). bitOr x low) (shl-exact 8 8 16 h (lit≤ tt)) ∙ or-shifted high 8 low l ∙ omega arith
+-- a unit by its octets in the other order, twice over and shifted down by one octet
+pub unit-turned : (high low : ℕ) → high < 256 → low < 256 → (high + 256 * low) * 0x10001 / 256 % 0x10000 ≡ 256 * high + low
+unit-turned high low h l =
+    let down : (high + 256 * low) * 0x10001 / 256 ≡ low * 0x10000 + (256 * high + low) = omega arith in
+    ap (λ (x : ℕ). x % 0x10000) down ∙ digits-mod low (omega arith)
 
 -- and the octets of the units of an even number of octets are the octets
 pub unit-octets-octet-units : (o : List ℕ) → Below 256 o → length o % 2 ≡ 0 → unitOctets (octetUnits o) ≡ o

@@ -1,73 +1,41 @@
--- `alphabet::text_to_septets` meets its contract: what `measure` tells decides between 6, 7 and success, and `lay_septets` lays the septets.
+-- `alphabet::text_to_septets` meets its contract: each way has it.
 -- Assumes nothing.
-use mathlib.Core.Path.{_≡_, _∙_, sym}
-use mathlib.Core.Bool.{false}
-use Prim.Native.Nat.{_≤_, _<_}
 use native.Mathlib.Omega.{arith}
-use lib.Dec.{ltb}
-use lib.ListN.{length}
 use borrow.Author.Needs.{needs}
-use Rattle.words.proofs.Filling.{fills-short, fills-done}
-use Rattle.alphabet.specs.Writing.{firstUnlisted, septetsOf, septetsRules, septetsAnswers, septetsLeaves}
-use Rattle.alphabet.proofs.Units.{measured-septets, refused-unlisted}
 use Rattle.alphabet.proofs.text_to_septets.Statement.{statement}
 use Rattle.alphabet.proofs.text_to_septets.Tie as tie
 
-low-table-requires : tie.Need-low-table-requires
-low-table-requires c κs = search needs
+own-front-requires : tie.Need-own-front-requires
+own-front-requires c κs = search needs
 
-measure-requires : tie.Need-measure-requires
-measure-requires c κs = search needs
+fill-septets-requires : tie.Need-fill-septets-requires
+fill-septets-requires c κs =
+    let front = c .before .before in
+    λ k l. front .own-front .ensures .1 k (omega (arith, l, c .before .if1 .taken)) (omega arith)
 
-enum-known-length : tie.Need-enum-known-length
-enum-known-length c = search needs
-
-enum-known-length-2 : tie.Need-enum-known-length-2
-enum-known-length-2 c = search needs
-
--- every unit is listed, and n is the number of septets
-counted : (c : tie.After-length2)
-    → (ltb (firstUnlisted (c .before .before .before .before .before .before .before .args .text .now)) (length (c .before .before .before .before .before .before .before .args .text .now)) ≡ false)
-    × (c .length2 .given .0 .0 ≡ length (septetsOf (c .before .before .before .before .before .before .before .args .text .now)))
-counted c = measured-septets (c .before .before .before .before .before .before .before .args .text .now) _ (sym (c .length2 .given .1) ∙ c .before .before .measure .ensures)
-
-returns : tie.Need-returns
-unfolding septetsRules septetsAnswers septetsLeaves
-returns c =
-    let a = c .before .before .before .before .before .before .before .before .before .args in
-    let few : length (a .out .now) < length (septetsOf (a .text .now)) = omega (arith, counted (c .before .before) .1) in
-    fills-short _ _ (septetsOf (a .text .now)) (a .out .now) (counted (c .before .before) .0) few
-
-lay-septets-requires : tie.Need-lay-septets-requires
-lay-septets-requires c κs = (c .before .before .before .before .before .before .before .before .low-table .ensures, omega (arith, c .before .before .if1 .left, counted (c .before .before .before .before) .1))
-
-returns-2 : tie.Need-returns-2
-unfolding septetsRules septetsAnswers septetsLeaves
-returns-2 c =
-    let a = c .before .before .before .before .before .before .before .before .args in
-    refused-unlisted (a .text .now) (a .out .now) _ (sym (c .before .length .given .1) ∙ c .before .before .before .measure .ensures)
+septets-by-table-requires : tie.Need-septets-by-table-requires
+septets-by-table-requires c κs = search needs
 
 same-length : tie.Need-same-length
 same-length c = search needs
 
-returns-3 : tie.Need-returns-3
-unfolding septetsRules septetsAnswers septetsLeaves
-returns-3 c =
-    let a = c .before .before .before .before .before .before .before .before .before .before .before .before .before .before .args in
-    let m = counted (c .before .before .before .before .before .before .before) in
-    let room : length (septetsOf (a .text .now)) ≤ length (a .out .now) = omega (arith, c .before .before .before .before .before .if1 .left, m .1) in
-    fills-done _ _ (septetsOf (a .text .now)) (a .out .now) (m .0) room _ _ (m .1) (c .before .before .lay-septets .ensures)
+returns : tie.Need-returns
+returns c = search needs
+
+same-length-2 : tie.Need-same-length-2
+same-length-2 c = search needs
+
+returns-2 : tie.Need-returns-2
+returns-2 c = search needs
 
 pub text-to-septets-spec : {M : Type 1} → statement M
 text-to-septets-spec =
     tie.close
     (tie.spec
-    low-table-requires
-    measure-requires
-    enum-known-length
-    enum-known-length-2
-    returns
-    lay-septets-requires
-    returns-2
+    own-front-requires
+    fill-septets-requires
+    septets-by-table-requires
     same-length
-    returns-3)
+    returns
+    same-length-2
+    returns-2)

@@ -1,6 +1,6 @@
 -- The groups passed are laid over the front of out, and each turn stores the next group right after them.
 use Prim.Native.Nat.{ℕ, _≤_, _+_, _-_, _*_, _^_}
-use mathlib.Core.Path.{_≡_, ap, ap₂, _∙_}
+use mathlib.Core.Path.{_≡_, ap, _∙_}
 use mathlib.Core.List.{List, _++_}
 use native.Mathlib.Omega.{arith}
 use native.Mathlib.Nat.{mul-zero}
@@ -33,24 +33,19 @@ within c =
     let a = c .before .before .before .before .args in
     (omega (arith, group-within (a .u) (c .loop-test .taken)), omega (arith, group-within (a .w) (c .loop-test .taken)))
 
-mul-join : tie.Need-mul-join Inv-loop μ-loop
-mul-join c =
+mul-recut-group : tie.Need-mul-recut-group Inv-loop μ-loop
+mul-recut-group c =
     let w = within c in
     search needs
 
-join-requires : tie.Need-join-requires Inv-loop μ-loop
-join-requires c κs =
-    let w = within c in
+mul-recut-group-2 : tie.Need-mul-recut-group-2 Inv-loop μ-loop
+mul-recut-group-2 c =
+    let w = within (c .before) in
     search needs
 
-mul-spread : tie.Need-mul-spread Inv-loop μ-loop
-mul-spread c =
-    let w = within (c .before .before) in
-    search needs
-
-spread-requires : tie.Need-spread-requires Inv-loop μ-loop
-spread-requires c κs =
-    let w = within (c .before .before) in
+recut-group-requires : tie.Need-recut-group-requires Inv-loop μ-loop
+recut-group-requires c κs =
+    let w = within (c .before) in
     search needs
 
 add-g : tie.Need-add-g Inv-loop μ-loop
@@ -61,7 +56,8 @@ loop-less c = search needs
 
 loop-again : tie.Need-loop-again Inv-loop μ-loop
 loop-again c =
-    let in-loop = c .before .before .before .before .before in
+    let call = c .before .before in
+    let in-loop = call .before .before in
     let at = in-loop .before in
     let start = at .before .before .before in
     let s : List ℕ = start .args .pieces .now in
@@ -71,9 +67,9 @@ loop-again c =
     let g : ℕ = at .loop .g in
     let done : List ℕ = digits (2 ^ u) (w * g) (value (2 ^ w) (take (u * g) s)) in
     let next : List ℕ = digits (2 ^ u) w (value (2 ^ w) (take u (drop (u * g) s))) in
-    let stored : c .before .before .spread .last .1 .0 ≡ laid (done ++ next) d =
-    c .before .before .spread .ensures
-    ∙ ap₂ (λ (o : List ℕ) (v : ℕ). take (w * g) o ++ digits (2 ^ u) w v ++ drop (w * g + w) o) (at .loop .inv .1) (c .before .before .before .before .join .ensures)
+    let stored : call .recut-group .last .1 .1 .1 .0 ≡ laid (done ++ next) d =
+    call .recut-group .ensures
+    ∙ ap (λ (o : List ℕ). take (w * g) o ++ next ++ drop (w * g + w) o) (at .loop .inv .1)
     ∙ laid-then done next d (w * g) w (digits-length (2 ^ u) (w * g) (value (2 ^ w) (take (u * g) s))) (digits-length (2 ^ u) w (value (2 ^ w) (take u (drop (u * g) s)))) in (
       search needs,
       stored ∙ ap (λ (o : List ℕ). laid o d) (recut-group w u g s (start .pre .0) (omega (arith, within in-loop))),
@@ -97,10 +93,9 @@ recut-spec =
     Inv-loop
     μ-loop
     loop-holds
-    mul-join
-    join-requires
-    mul-spread
-    spread-requires
+    mul-recut-group
+    mul-recut-group-2
+    recut-group-requires
     add-g
     loop-less
     loop-again

@@ -41,7 +41,7 @@ returns c =
 recut-requires : tie.Need-recut-requires
 recut-requires c κs =
     let start = c .before .before .before .before .before .before in
-    (start .pre .0, (omega arith, omega (arith, least (c .before .before)), search needs, search needs))
+    (start .pre .0, (omega arith, omega (arith, least (c .before .before)), search needs, omega arith, search needs))
 
 mul-last-group : tie.Need-mul-last-group
 mul-last-group c = search needs

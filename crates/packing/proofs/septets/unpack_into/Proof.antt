@@ -32,7 +32,7 @@ unpacked-parts o h n e =
 
 recut-requires : tie.Need-recut-requires
 unfolding octetsFor
-recut-requires c κs = (λ k. c .before .before .shared-slice-known .given k .fits, (omega arith, omega arith, search needs, search needs))
+recut-requires c κs = (λ k. c .before .before .shared-slice-known .given k .fits, (omega arith, omega arith, search needs, omega arith, search needs))
 
 mul-join : tie.Need-mul-join
 mul-join c = search needs

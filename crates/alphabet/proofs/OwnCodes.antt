@@ -1,0 +1,127 @@
+-- Units that are their own codes: what the code's short test tells, and that such a text is its own septets, and such septets their own text.
+-- Assumes nothing.
+use mathlib.Core.Path.{_≡_, refl, ap, ap₂, _∙_, sym}
+use mathlib.Core.Bool.{Bool, true, false, cond, not}
+use mathlib.Core.List.{List, [], _∷_, map}
+use Prim.Native.Nat.{ℕ, suc, _+_, _-_, _<_, _≤_}
+use native.Mathlib.Omega.{arith}
+use lib.Bits.{bitOr, or-add-and, and-le-l, and-le-r}
+use lib.Dec.{T, eqb, ltb, leb, eqb→eq}
+use lib.ListN.{length, getD}
+use native.Mathlib.Decide.{decLe}
+use borrow.Author.Count.{below-more}
+use borrow.Author.Tests.{lt-leb, le-ltb}
+use Rattle.words.specs.Lists.{firstPlace}
+use Rattle.words.proofs.Places.{place-none}
+use Rattle.words.proofs.Tests.{both, both-left, both-right, everyBelow, every-below}
+use Rattle.alphabet.specs.declared.Listed.the-variants.{Main}
+use Rattle.alphabet.specs.Tables.{escape, mainTable, extension, among, beside}
+use Rattle.alphabet.specs.Writing.{listedAs, isUnlisted, septetsOf, firstUnlisted}
+use Rattle.alphabet.specs.Reading.{mainUnit, oldUnit, textOf, firstWide}
+use Rattle.alphabet.specs.Inner.{Own, OwnFrom, AllOwn, readAs}
+use Rattle.alphabet.proofs.Entries.{same, same-is}
+use Rattle.alphabet.proofs.Rows.{differ}
+use Rattle.alphabet.proofs.Septets.{text-plain}
+
+-- bits that are none together are none each
+or-none : (a b : ℕ) → bitOr a b ≡ 0 → (a ≡ 0) × (b ≡ 0)
+or-none a b e = (omega (arith, e, or-add-and a b, and-le-r a b), omega (arith, e, or-add-and a b, and-le-l a b))
+
+none-alike : (ones : ℕ) (t : Bool) → 0 < ones → cond t ones 0 ≡ 0 → t ≡ false
+none-alike ones true h e = absurd (omega (arith, h, e))
+none-alike ones false h e = refl
+
+-- the facts of a unit that is its own code, as a test
+unfoldable isOwn : ℕ → Bool
+isOwn u = both (same (listedAs u) (Main u)) (both (eqb (mainUnit u) u) (both (eqb (oldUnit u) u) (not (eqb u escape))))
+
+-- a unit passes the code's test only if they hold
+unfoldable ownTest : ℕ → Bool
+ownTest u =
+    cond (ltb u 0x20) true
+    (cond (ltb 0x7a (bitOr u 0x20)) true
+    (cond (eqb u 0x24) true
+    (cond (eqb (bitOr u 0x20) 0x60) true
+    (isOwn u))))
+
+own-tests : T (everyBelow ownTest 0x80)
+unfolding ownTest isOwn listedAs mainUnit oldUnit among beside firstPlace mainTable extension
+own-tests = tt
+
+own-is : (u : ℕ) → u < 0x80 → T (isOwn u) → Own u
+unfolding isOwn
+own-is u h t =
+    let t1 = both-right (same (listedAs u) (Main u)) (both (eqb (mainUnit u) u) (both (eqb (oldUnit u) u) (not (eqb u escape)))) t in
+    let t2 = both-right (eqb (mainUnit u) u) (both (eqb (oldUnit u) u) (not (eqb u escape))) t1 in
+    record {
+      below = h;
+      written = same-is _ _ (both-left (same (listedAs u) (Main u)) (both (eqb (mainUnit u) u) (both (eqb (oldUnit u) u) (not (eqb u escape)))) t);
+      read = eqb→eq _ _ (both-left (eqb (mainUnit u) u) (both (eqb (oldUnit u) u) (not (eqb u escape))) t1);
+      old = eqb→eq _ _ (both-left (eqb (oldUnit u) u) (not (eqb u escape)) t2);
+      other = differ u escape (both-right (eqb (oldUnit u) u) (not (eqb u escape)) t2);
+    }
+
+-- what the code's test tells, at any width
+pub own-by-test : (ones u : ℕ) {a b c d : ℕ} → 0 < ones → a ≡ 0x20 - u → b ≡ bitOr u 0x20 - 0x7a → c ≡ cond (eqb u 0x24) ones 0 → d ≡ cond (eqb (bitOr u 0x20) 0x60) ones 0
+    → bitOr (bitOr (bitOr a b) c) d ≡ 0 → Own u
+unfolding ownTest
+own-by-test ones u {a} {b} {c} {d} some ea eb ec ed none =
+    let n1 = or-none (bitOr (bitOr a b) c) d none in
+    let n2 = or-none (bitOr a b) c (n1 .0) in
+    let n3 = or-none a b (n2 .0) in
+    let low : 0x20 ≤ u = omega (arith, ea, n3 .0) in
+    let high : bitOr u 0x20 ≤ 0x7a = omega (arith, eb, n3 .1) in
+    let within : u < 0x80 = omega (arith, high, or-add-and u 0x20, and-le-r u 0x20) in
+    own-is u within
+    (simp (le-ltb u 0x20 low, le-ltb 0x7a (bitOr u 0x20) high, none-alike ones (eqb u 0x24) some (sym ec ∙ n2 .1), none-alike ones (eqb (bitOr u 0x20) 0x60) some (sym ed ∙ n1 .1))
+    at (every-below ownTest 0x80 own-tests u within))
+
+-- what a loop over the test knows at each turn: where the bits gathered are none, all from a to i are their own codes
+pub own-none : (s : List ℕ) (a : ℕ) → OwnFrom s a a
+own-none s a k l m = absurd (omega (arith, l, m))
+
+pub own-more : (s : List ℕ) (a i bits r : ℕ) → (bits ≡ 0 → OwnFrom s a i) → (r ≡ 0 → Own (getD s i 0)) → bitOr bits r ≡ 0 → OwnFrom s a (i + 1)
+own-more s a i bits r before here e =
+    below-more (λ (k : ℕ). a ≤ k → Own (getD s k 0)) i (before (or-none bits r e .0)) (λ m. here (or-none bits r e .1))
+
+-- one run after another
+pub own-join : (s : List ℕ) (a b : ℕ) → OwnFrom s 0 a → OwnFrom s a b → OwnFrom s 0 b
+own-join s a b front rest k l m = elim (decLe a k) [ yes h ↦ rest k l h | no h ↦ front k (omega (arith, h)) m ]
+
+-- two runs that meet or overlap
+pub own-both : (s : List ℕ) (a b c d r q : ℕ) → (r ≡ 0 → OwnFrom s a b) → (q ≡ 0 → OwnFrom s c d) → c ≤ b → bitOr r q ≡ 0 → OwnFrom s a d
+own-both s a b c d r q one two meet e k l m =
+    elim (decLe b k) [ yes h ↦ two (or-none r q e .1) k l (omega (arith, h, meet)) | no h ↦ one (or-none r q e .0) k (omega (arith, h)) m ]
+
+-- a text of such units is its own septets
+pub own-septets : (t : List ℕ) → AllOwn t → septetsOf t ≡ t
+unfolding septetsOf
+own-septets [] h = refl
+own-septets (u ∷ t) h = rw (h 0 (omega arith) .written) (ap (λ (s : List ℕ). u ∷ s) (own-septets t (λ k l. h (suc k) (omega arith))))
+
+pub own-listed : (t : List ℕ) → AllOwn t → ltb (firstUnlisted t) (length t) ≡ false
+own-listed t h =
+    let none : firstUnlisted t ≡ length t = place-none (λ unit. isUnlisted (listedAs unit)) t (λ k l. ap isUnlisted (h k l .written)) in
+    le-ltb (firstUnlisted t) (length t) (omega (arith, none))
+
+-- and such septets are their own text
+pub own-narrow : (s : List ℕ) → AllOwn s → ltb (firstWide s) (length s) ≡ false
+own-narrow s h =
+    let none : firstWide s ≡ length s = place-none (λ x. leb 128 x) s (λ k l. lt-leb 128 (getD s k 0) (h k l .below)) in
+    le-ltb (firstWide s) (length s) (omega (arith, none))
+
+own-text : (s : List ℕ) → AllOwn s → textOf s ≡ s
+unfolding textOf
+own-text [] h = refl
+own-text (x ∷ s) h =
+    text-plain x s (h 0 (omega arith) .other)
+    ∙ ap₂ (λ (u : ℕ) (t : List ℕ). u ∷ t) (h 0 (omega arith) .read) (own-text s (λ k l. h (suc k) (omega arith)))
+
+own-old : (s : List ℕ) → AllOwn s → map oldUnit s ≡ s
+own-old [] h = refl
+own-old (x ∷ s) h = ap₂ (λ (u : ℕ) (t : List ℕ). u ∷ t) (h 0 (omega arith) .old) (own-old s (λ k l. h (suc k) (omega arith)))
+
+pub own-reads : (old : Bool) (s : List ℕ) → AllOwn s → readAs old s ≡ s
+unfolding readAs
+own-reads true s h = own-old s h
+own-reads false s h = own-text s h

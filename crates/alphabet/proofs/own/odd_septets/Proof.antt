@@ -1,0 +1,54 @@
+-- `alphabet::own::odd_septets` meets its contract. The invariant: where the bits gathered are none, all that were passed are their own codes.
+-- Assumes nothing.
+use mathlib.Core.Path.{_≡_}
+use Prim.Native.Nat.{_-_, _≤_}
+use native.Mathlib.Omega.{arith}
+use lib.ListN.{length}
+use borrow.Author.Needs.{needs}
+use Rattle.alphabet.specs.Inner.{OwnFrom}
+use Rattle.alphabet.proofs.OwnCodes.{own-none, own-more}
+use Rattle.alphabet.proofs.own.odd_septets.Statement.{statement}
+use Rattle.alphabet.proofs.own.odd_septets.Tie as tie
+
+abbrev Inv-loop : tie.InvT-loop
+Inv-loop septets bits₀ i₀ bits i = (i ≤ length septets) × (bits ≡ 0 → OwnFrom septets 0 i)
+
+abbrev μ-loop : tie.MeasureT-loop
+μ-loop septets bits₀ i₀ bits i = length septets - i
+
+loop-holds : tie.Need-loop-holds Inv-loop μ-loop
+loop-holds c = (search needs, λ e. own-none (c .before .args .septets .now) 0)
+
+shared-slice-read-odd-septet : tie.Need-shared-slice-read-odd-septet Inv-loop μ-loop
+shared-slice-read-odd-septet c = search needs
+
+odd-septet-requires : tie.Need-odd-septet-requires Inv-loop μ-loop
+odd-septet-requires c κs = search needs
+
+add-i : tie.Need-add-i Inv-loop μ-loop
+add-i c = search needs
+
+loop-less : tie.Need-loop-less Inv-loop μ-loop
+loop-less c = search needs
+
+loop-again : tie.Need-loop-again Inv-loop μ-loop
+loop-again c =
+    let at = c .before .before .before in
+    (search needs, own-more (at .before .before .args .septets .now) 0 (at .loop .i) (at .loop .bits) (c .odd-septet .result) (at .loop .inv .1) (c .odd-septet .ensures))
+
+returns : tie.Need-returns Inv-loop μ-loop
+returns c = λ e k l. c .before .loop .inv .1 e k (omega arith) (omega arith)
+
+pub odd-septets-spec : {M : Type 1} → statement M
+odd-septets-spec =
+    tie.close
+    (tie.spec
+    Inv-loop
+    μ-loop
+    loop-holds
+    shared-slice-read-odd-septet
+    odd-septet-requires
+    add-i
+    loop-less
+    loop-again
+    returns)

@@ -1,0 +1,174 @@
+// Units that are their own codes, as most letters, digits and signs are: a test without branches or tables, and plain copies.
+// A loop over the test vectorises, eight units or sixteen septets at a time.
+ghost use mathlib.Core.Path.{_≡_};
+ghost use mathlib.Core.Bool.{cond};
+ghost use Prim.Native.Nat.{_+_, _-_, _≤_};
+ghost use lib.Dec.{eqb};
+ghost use lib.ListN.{length, take};
+ghost use Rattle.words.specs.Lists.{laid};
+ghost use Rattle.alphabet.specs.Writing.{septetsAnswers, septetsLeaves};
+ghost use Rattle.alphabet.specs.Reading.{textAnswers, textLeaves};
+ghost use Rattle.alphabet.specs.Inner.{Own, OwnFrom, AllOwn, readAs};
+use words::Filled;
+use words::Refusal;
+
+// By how much a is above b, or 0.
+fn above(a: u16, b: u16) -> u16
+    ensures { λ r. ⌜ r ≡ a - b ⌝ }
+{
+    if b < a { a - b } else { 0 }
+}
+
+// All ones where a is b, or 0.
+fn alike(a: u16, b: u16) -> u16
+    ensures { λ r. ⌜ r ≡ cond (eqb a b) 0xffff 0 ⌝ }
+{
+    if a == b { 0xffff } else { 0 }
+}
+
+// 0 only for a unit that is its own code: from 20 to 7A, but for 24, 40 and 5B to 60.
+fn odd_unit(unit: u16) -> u16
+    ensures { λ r. ⌜ (r ≡ 0 → Own unit) ⌝ }
+{
+    let small = unit | 0x20;
+    above(0x20, unit) | above(small, 0x7a) | alike(unit, 0x24) | alike(small, 0x60)
+}
+
+// The same of an octet.
+fn above_octet(a: u8, b: u8) -> u8
+    ensures { λ r. ⌜ r ≡ a - b ⌝ }
+{
+    if b < a { a - b } else { 0 }
+}
+
+fn alike_octet(a: u8, b: u8) -> u8
+    ensures { λ r. ⌜ r ≡ cond (eqb a b) 0xff 0 ⌝ }
+{
+    if a == b { 0xff } else { 0 }
+}
+
+fn odd_septet(septet: u8) -> u8
+    ensures { λ r. ⌜ (r ≡ 0 → Own septet) ⌝ }
+{
+    let small = septet | 0x20;
+    above_octet(0x20, septet)
+        | above_octet(small, 0x7a)
+        | alike_octet(septet, 0x24)
+        | alike_octet(small, 0x60)
+}
+
+// 0 only for units of which each is its own code, from one place to another.
+fn odd_units(text: &[u16], from: usize, to: usize) -> u16
+    requires { ⌜ (from ≤ to) × (to ≤ length (now text)) ⌝ }
+    ensures { λ r. ⌜ (r ≡ 0 → OwnFrom (now (text .entry)) from to) ⌝ }
+{
+    let mut bits: u16 = 0;
+    let mut i: usize = from;
+    while i < to {
+        bits = bits | odd_unit(text[i]);
+        i += 1;
+    }
+    bits
+}
+
+// How many units at the front of a text are their own codes: all of them, or some multiple of 16 before the first that is not.
+pub(crate) fn own_front(text: &[u16]) -> usize
+    ensures { λ r. ⌜ (r ≤ length (now (text .entry))) × OwnFrom (now (text .entry)) 0 r ⌝ }
+{
+    let mut n: usize = 0;
+    while 16 <= text.len() - n {
+        let next = n + 16;
+        if odd_units(text, n, next) != 0 {
+            return n;
+        }
+        n = next;
+    }
+    if odd_end(text, n) != 0 {
+        return n;
+    }
+    text.len()
+}
+
+// 0 only for units of which each is its own code, from a place among the last sixteen on. Eight at a time, the last eight over again where
+// they overlap: a loop over fewer would go unit by unit.
+fn odd_end(text: &[u16], n: usize) -> u16
+    requires { ⌜ (n ≤ length (now text)) × (length (now text) ≤ n + 16) ⌝ }
+    ensures { λ r. ⌜ (r ≡ 0 → OwnFrom (now (text .entry)) n (length (now (text .entry)))) ⌝ }
+{
+    let len = text.len();
+    if len < 8 {
+        return odd_units(text, n, len);
+    }
+    let last = odd_units(text, len - 8, len);
+    if 8 < len - n {
+        return odd_units(text, n, n + 8) | last;
+    }
+    last
+}
+
+// 0 only for septets of which each is its own unit.
+pub(crate) fn odd_septets(septets: &[u8]) -> u8
+    ensures { λ r. ⌜ (r ≡ 0 → AllOwn (now (septets .entry))) ⌝ }
+{
+    let mut bits: u8 = 0;
+    let mut i: usize = 0;
+    while i < septets.len() {
+        bits = bits | odd_septet(septets[i]);
+        i += 1;
+    }
+    bits
+}
+
+// Lays the first n units over the front of the buffer as septets.
+pub(crate) fn copy_units(text: &[u16], n: usize, out: &mut [u8])
+    requires { ⌜ OwnFrom (now text) 0 n ⌝ }
+    requires { ⌜ (n ≤ length (now text)) × (n ≤ length (now out)) ⌝ }
+    ensures { λ r. ⌜ now (out .exit) ≡ laid (take n (now (text .entry))) (now (out .entry)) ⌝ }
+{
+    let mut i: usize = 0;
+    while i < n {
+        out[i] = text[i] as u8;
+        i += 1;
+    }
+}
+
+// Lays the septets over the front of the buffer as units.
+fn copy_septets(septets: &[u8], out: &mut [u16])
+    requires { ⌜ AllOwn (now septets) ⌝ }
+    requires { ⌜ length (now septets) ≤ length (now out) ⌝ }
+    ensures { λ r. ⌜ now (out .exit) ≡ laid (now (septets .entry)) (now (out .entry)) ⌝ }
+{
+    let mut i: usize = 0;
+    while i < septets.len() {
+        out[i] = septets[i] as u16;
+        i += 1;
+    }
+}
+
+// Text to septets, of a text of which each unit is its own code.
+pub(crate) fn fill_septets(text: &[u16], out: &mut [u8]) -> Filled
+    requires { ⌜ AllOwn (now text) ⌝ }
+    ensures answer { λ r. ⌜ r ≡ septetsAnswers (now (text .entry)) (length (now (out .entry))) ⌝ }
+    ensures buffer { λ r. ⌜ now (out .exit) ≡ septetsLeaves (now (text .entry)) (now (out .entry)) ⌝ }
+{
+    let n = text.len();
+    if out.len() < n {
+        return Filled::Refused(Refusal::NoRoom);
+    }
+    copy_units(text, n, out);
+    Filled::Done(n)
+}
+
+// Septets to text, of septets of which each is its own unit.
+pub(crate) fn fill_text(septets: &[u8], old: bool, out: &mut [u16]) -> Filled
+    requires { ⌜ AllOwn (now septets) ⌝ }
+    ensures answer { λ r. ⌜ r ≡ textAnswers (now (septets .entry)) (readAs old (now (septets .entry))) (length (now (out .entry))) ⌝ }
+    ensures buffer { λ r. ⌜ now (out .exit) ≡ textLeaves (now (septets .entry)) (readAs old (now (septets .entry))) (now (out .entry)) ⌝ }
+{
+    let n = septets.len();
+    if out.len() < n {
+        return Filled::Refused(Refusal::NoRoom);
+    }
+    copy_septets(septets, out);
+    Filled::Done(n)
+}
