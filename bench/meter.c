@@ -1,0 +1,121 @@
+/* The benchmark's instruments, see meter.h. */
+#define _GNU_SOURCE
+#include "meter.h"
+#include <signal.h>
+#include <string.h>
+#include <time.h>
+#include <ucontext.h>
+
+static volatile unsigned long steps;
+static volatile uintptr_t lowest;
+static unsigned long empty_steps;
+static unsigned long empty_stack;
+static char signal_stack[1 << 16];
+static unsigned char own_stack[1 << 16] __attribute__((aligned(64)));
+
+static void on_step(int number, siginfo_t *info, void *context) {
+  uintptr_t pointer = (uintptr_t)((ucontext_t *)context)->uc_mcontext.gregs[REG_RSP];
+  (void)number;
+  (void)info;
+  steps++;
+  if (pointer < lowest) lowest = pointer;
+}
+
+/* Runs the call on a stack of the meter's own, with the trap flag set or not. */
+static __attribute__((noinline)) void run_apart(call run, int traced) {
+  unsigned char *top = own_stack + sizeof own_stack - 64;
+  if (traced)
+    __asm__ volatile(
+        "movq %%rsp, %%rbx\n\t"
+        "movq %[top], %%rsp\n\t"
+        "pushfq\n\t"
+        "orq $0x100, (%%rsp)\n\t"
+        "popfq\n\t"
+        "call *%[run]\n\t"
+        "pushfq\n\t"
+        "andq $~0x100, (%%rsp)\n\t"
+        "popfq\n\t"
+        "movq %%rbx, %%rsp\n\t"
+        :
+        : [top] "r"(top), [run] "r"(run)
+        : "rbx", "rax", "rcx", "rdx", "rsi", "rdi", "r8", "r9", "r10", "r11", "xmm0", "xmm1", "xmm2", "xmm3", "xmm4", "xmm5",
+          "xmm6", "xmm7", "xmm8", "xmm9", "xmm10", "xmm11", "xmm12", "xmm13", "xmm14", "xmm15", "memory", "cc");
+  else
+    __asm__ volatile(
+        "movq %%rsp, %%rbx\n\t"
+        "movq %[top], %%rsp\n\t"
+        "call *%[run]\n\t"
+        "movq %%rbx, %%rsp\n\t"
+        :
+        : [top] "r"(top), [run] "r"(run)
+        : "rbx", "rax", "rcx", "rdx", "rsi", "rdi", "r8", "r9", "r10", "r11", "xmm0", "xmm1", "xmm2", "xmm3", "xmm4", "xmm5",
+          "xmm6", "xmm7", "xmm8", "xmm9", "xmm10", "xmm11", "xmm12", "xmm13", "xmm14", "xmm15", "memory", "cc");
+}
+
+static void empty(void) {}
+
+unsigned long meter_instructions(call run) {
+  steps = 0;
+  lowest = UINTPTR_MAX;
+  run_apart(run, 1);
+  return steps - empty_steps;
+}
+
+static unsigned long deepest(call run) {
+  unsigned char *top = own_stack + sizeof own_stack - 64;
+  unsigned long by_pointer, by_pattern;
+  meter_instructions(run);
+  by_pointer = (unsigned long)((uintptr_t)top - lowest);
+  /* Two patterns, so that an octet that happens to hold one of them shows with the other. */
+  by_pattern = 0;
+  for (int round = 0; round < 2; round++) {
+    unsigned char pattern = round == 0 ? 0xA5 : 0x5A;
+    size_t at = 0;
+    memset(own_stack, pattern, sizeof own_stack);
+    run_apart(run, 0);
+    while (at < sizeof own_stack && own_stack[at] == pattern) at++;
+    unsigned long depth = own_stack + at < top ? (unsigned long)(top - (own_stack + at)) : 0;
+    if (depth > by_pattern) by_pattern = depth;
+  }
+  return by_pointer > by_pattern ? by_pointer : by_pattern;
+}
+
+unsigned long meter_stack(call run) {
+  return deepest(run) - empty_stack;
+}
+
+double meter_time(call run, unsigned long times) {
+  struct timespec from, to;
+  clock_gettime(CLOCK_MONOTONIC, &from);
+  for (unsigned long i = 0; i < times; i++) run();
+  clock_gettime(CLOCK_MONOTONIC, &to);
+  return ((double)(to.tv_sec - from.tv_sec) * 1e9 + (double)(to.tv_nsec - from.tv_nsec)) / (double)times;
+}
+
+/* 1 + 2 * 1000 + 1 instructions, and no stack. */
+static __attribute__((naked, noinline)) void known_loop(void) {
+  __asm__ volatile("movl $1000, %eax\n1:\tdecl %eax\n\tjnz 1b\n\tret");
+}
+
+/* 5 instructions, 776 octets of stack reserved and the lowest of them not touched. */
+static __attribute__((naked, noinline)) void known_stack(void) {
+  __asm__ volatile("pushq %rbp\n\tsubq $768, %rsp\n\taddq $768, %rsp\n\tpopq %rbp\n\tret");
+}
+
+/* 2 instructions, an octet 100 below the stack pointer touched. */
+static __attribute__((naked, noinline)) void known_touch(void) {
+  __asm__ volatile("movb $1, -100(%rsp)\n\tret");
+}
+
+int meter_start(void) {
+  stack_t apart = { .ss_sp = signal_stack, .ss_flags = 0, .ss_size = sizeof signal_stack };
+  struct sigaction action;
+  memset(&action, 0, sizeof action);
+  action.sa_sigaction = on_step;
+  action.sa_flags = SA_SIGINFO | SA_ONSTACK;
+  if (sigaltstack(&apart, NULL) != 0 || sigaction(SIGTRAP, &action, NULL) != 0) return 0;
+  empty_steps = meter_instructions(empty) - 1;
+  empty_stack = deepest(empty);
+  return meter_instructions(known_loop) == 2002 && meter_instructions(known_stack) == 5 && meter_instructions(known_touch) == 2 &&
+         meter_stack(known_loop) == 0 && meter_stack(known_stack) == 776 && meter_stack(known_touch) == 100;
+}
