@@ -1,14 +1,14 @@
-# Sourced by bench/run and bench/check, in the project's top folder: builds the harness for x86-64 and runs it.
+# Sourced by bench/run and bench/check, in the root and after check/shell.sh: builds the harness for x86-64 and runs it.
 # On x86-64 it runs as it is, on Arm under the kit's emulator.
 
 say() { printf 'bench: %s\n' "$*" >&2; }
 
-bench_kit=$(dirname "$(dirname "$(rt doc)")")
-bench_lib=$bench_kit/toolchain/lib
+need_rt
+bench_lib=$(kit)/toolchain/lib
 bench_out=target/bench
 bench_flags=(-target x86_64-unknown-linux-gnu -O2)
 bench_emulator=()
-[ "$(uname -m)" = x86_64 ] || bench_emulator=("$bench_kit/on/$(uname -m)/toolchain/bin/qemu-x86_64")
+[ "$(uname -m)" = x86_64 ] || bench_emulator=("$(kit)/on/$(uname -m)/toolchain/bin/qemu-x86_64")
 
 # The Debian packages that building takes.
 bench_needs() {
@@ -23,20 +23,11 @@ bench_needs() {
   fi
 }
 
-# bench_archive: proves the library if it has to, and names its archive. WIKUAY_ARCHIVE names another build to measure.
-bench_archive() {
+# bench_library: the archive to measure, proved and built if it has to be. WIKUAY_ARCHIVE names another build.
+bench_library() {
+  library=${WIKUAY_ARCHIVE:-target/staticlib/libwikuay.a}
   mkdir -p "$bench_out"
-  if [ -n "${WIKUAY_ARCHIVE:-}" ]; then
-    say "measuring $WIKUAY_ARCHIVE"
-    printf '%s\n' "$WIKUAY_ARCHIVE"
-    return
-  fi
-  say "proving and building libwikuay.a, unless it is there"
-  if ! rt staticlib wikuay >"$bench_out/staticlib.log" 2>&1; then
-    say "rt staticlib wikuay fails; $bench_out/staticlib.log says why"
-    return 1
-  fi
-  printf '%s\n' target/staticlib/libwikuay.a
+  if [ -n "${WIKUAY_ARCHIVE:-}" ]; then say "measuring $library"; else (archive) >&2 || exit 2; fi
 }
 
 # bench_compile NAME: one C file of bench/ into an object.
@@ -44,7 +35,7 @@ bench_compile() {
   clang "${bench_flags[@]}" -std=gnu11 -Wall -Wextra -Werror -Iinclude -c "bench/$1.c" -o "$bench_out/$1.o"
 }
 
-# bench_harness ARCHIVE: links the harness with the library.
+# bench_harness LIBRARY: links the harness with an archive, or with an object file that stands for it.
 bench_harness() {
   local name
   mkdir -p "$bench_out"
