@@ -53,3 +53,9 @@ bench_measure() {
     "${bench_emulator[@]}" "$bench_lib/ld-linux-x86-64.so.2" --library-path "$bench_lib" "$bench_out/harness" "$@"
   fi
 }
+
+# bench_traced TIMES: what the emulator itself counts, with the start of the program, for that many messages.
+bench_traced() {
+  "${bench_emulator[@]}" -one-insn-per-tb -d exec,nochain -D /dev/stdout \
+    "$bench_lib/ld-linux-x86-64.so.2" --library-path "$bench_lib" "$bench_out/harness" repeat "$1" | grep -c ^Trace
+}

@@ -1,10 +1,14 @@
 /* The benchmark's harness: gives the same cases to every side, holds each answer to the library's, then measures.
 
      harness LENGTHS MEASURE SIDE..
+     harness repeat TIMES
 
    LENGTHS is `listed` or `all` (every length that the service holds). MEASURE is `count` (x86-64 instructions, and the
    library's stack) or `time`. It prints one line for each case and side, tab-separated, under a line of headings; a side
-   that answers something else than the library is not measured. Progress and differences go to standard error. */
+   that answers something else than the library is not measured. Progress and differences go to standard error.
+
+   `repeat` writes 160 letters TIMES times over, in three instructions a turn besides the call, for an emulator that counts by
+   itself. With TIMES 0 it prints its own count of that call. */
 #define _GNU_SOURCE
 #include "plain.h"
 #include "sides.h"
@@ -328,7 +332,27 @@ static void do_other_calls(void) {
   }
 }
 
+static int repeat(unsigned long times) {
+  given.writing = 1;
+  given.kind = "letters";
+  make_text(160);
+  ours_prepare(&given);
+  if (times == 0) {
+    if (!meter_start()) return 3;
+    ours_run();
+    printf("%lu\n", meter_instructions(ours_run));
+    return 0;
+  }
+  __asm__ volatile("1:\tcall *%[run]\n\tdecq %[times]\n\tjnz 1b"
+                   : [times] "+r"(times)
+                   : [run] "r"(ours_run)
+                   : "rax", "rcx", "rdx", "rsi", "rdi", "r8", "r9", "r10", "r11", "xmm0", "xmm1", "xmm2", "xmm3", "xmm4", "xmm5", "xmm6",
+                     "xmm7", "xmm8", "xmm9", "xmm10", "xmm11", "xmm12", "xmm13", "xmm14", "xmm15", "memory", "cc");
+  return 0;
+}
+
 int main(int words_len, char **words) {
+  if (words_len == 3 && strcmp(words[1], "repeat") == 0) return repeat(strtoul(words[2], NULL, 10));
   if (words_len < 4) {
     fprintf(stderr, "harness: give LENGTHS MEASURE SIDE..\n");
     return 2;
