@@ -47,6 +47,8 @@ static void ours_run(void) {
   else read = wikuay_read_message(given.service, given.coding, given.count, given.octets, given.octets_len, units, ROOM_UNITS);
 }
 
+static call ours_entry(void) { return given.writing ? (call)wikuay_write_message : (call)wikuay_read_message; }
+
 static void ours_answer(one_answer *got) {
   got->refusal = given.writing ? wrote.refusal : read.refusal;
   got->position = given.writing ? wrote.position : read.position;
@@ -233,7 +235,7 @@ static void do_case(void) {
         if (sides[s] == &ours || sides[s] == &plain) exit(1);
       }
       unsigned long middle = counts[counts_len / 2];
-      if (sides[s] == &ours) printf("\t%lu\t%lu\n", middle, meter_stack(sides[s]->run));
+      if (sides[s] == &ours) printf("\t%lu\t%lu\n", middle, meter_stack(sides[s]->run, ours_entry()));
       else printf("\t%lu\t-\n", middle);
     }
   }
@@ -304,17 +306,17 @@ static void do_other_calls(void) {
   static const struct {
     const char *name, *what;
     size_t length;
-    call run;
+    call run, entry;
   } others[] = {
-    { "wikuay_read_coding", "short message, E9", 0, run_read_coding },
-    { "wikuay_write_coding", "short message, plain", 0, run_write_coding },
-    { "wikuay_write_coding", "broadcast page, plain", 0, run_write_coding_page },
-    { "wikuay_holds_text", "plain", 0, run_holds_text },
-    { "wikuay_text_to_septets", "letters", 182, run_text_to_septets },
-    { "wikuay_septets_to_text", "letters", 182, run_septets_to_text },
-    { "wikuay_pack", "USSD, letters", 182, run_pack },
-    { "wikuay_unpack", "USSD, letters", 182, run_unpack },
-    { "wikuay_read_message", "old page, letters", 93, run_old_page },
+    { "wikuay_read_coding", "short message, E9", 0, run_read_coding, (call)wikuay_read_coding },
+    { "wikuay_write_coding", "short message, plain", 0, run_write_coding, (call)wikuay_write_coding },
+    { "wikuay_write_coding", "broadcast page, plain", 0, run_write_coding_page, (call)wikuay_write_coding },
+    { "wikuay_holds_text", "plain", 0, run_holds_text, (call)wikuay_holds_text },
+    { "wikuay_text_to_septets", "letters", 182, run_text_to_septets, (call)wikuay_text_to_septets },
+    { "wikuay_septets_to_text", "letters", 182, run_septets_to_text, (call)wikuay_septets_to_text },
+    { "wikuay_pack", "USSD, letters", 182, run_pack, (call)wikuay_pack },
+    { "wikuay_unpack", "USSD, letters", 182, run_unpack, (call)wikuay_unpack },
+    { "wikuay_read_message", "old page, letters", 93, run_old_page, (call)wikuay_read_message },
   };
   fprintf(stderr, "bench: the other calls\n");
   given.kind = "letters";
@@ -328,7 +330,7 @@ static void do_other_calls(void) {
     }
     unsigned long count = meter_instructions(others[i].run);
     printf("other\t%s\t%s\t%zu\t%zu\twikuay\tsame\t%lu\t%lu\n", others[i].name, others[i].what, others[i].length, others[i].length, count,
-           meter_stack(others[i].run));
+           meter_stack(others[i].run, others[i].entry));
   }
 }
 

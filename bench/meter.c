@@ -1,6 +1,7 @@
 /* The benchmark's instruments, see meter.h. */
 #define _GNU_SOURCE
 #include "meter.h"
+#include <limits.h>
 #include <signal.h>
 #include <string.h>
 #include <time.h>
@@ -8,16 +9,19 @@
 
 static volatile unsigned long steps;
 static volatile uintptr_t lowest;
+static volatile uintptr_t entered;
+static uintptr_t entry_at;
 static unsigned long empty_steps;
-static unsigned long empty_stack;
 static char signal_stack[1 << 16];
 static unsigned char own_stack[1 << 16] __attribute__((aligned(64)));
 
 static void on_step(int number, siginfo_t *info, void *context) {
-  uintptr_t pointer = (uintptr_t)((ucontext_t *)context)->uc_mcontext.gregs[REG_RSP];
+  const greg_t *registers = ((ucontext_t *)context)->uc_mcontext.gregs;
+  uintptr_t pointer = (uintptr_t)registers[REG_RSP];
   (void)number;
   (void)info;
   steps++;
+  if ((uintptr_t)registers[REG_RIP] == entry_at) entered = pointer;
   if (pointer < lowest) lowest = pointer;
 }
 
@@ -52,7 +56,7 @@ static __attribute__((noinline)) void run_apart(call run, int traced) {
           "xmm6", "xmm7", "xmm8", "xmm9", "xmm10", "xmm11", "xmm12", "xmm13", "xmm14", "xmm15", "memory", "cc");
 }
 
-static void empty(void) {}
+static __attribute__((noinline)) void empty(void) { __asm__ volatile(""); }
 
 unsigned long meter_instructions(call run) {
   steps = 0;
@@ -61,27 +65,25 @@ unsigned long meter_instructions(call run) {
   return steps - empty_steps;
 }
 
-static unsigned long deepest(call run) {
-  unsigned char *top = own_stack + sizeof own_stack - 64;
-  unsigned long by_pointer, by_pattern;
+unsigned long meter_stack(call run, call entry) {
+  unsigned long by_pointer, by_pattern = 0;
+  entry_at = (uintptr_t)entry;
+  entered = 0;
   meter_instructions(run);
-  by_pointer = (unsigned long)((uintptr_t)top - lowest);
+  entry_at = 0;
+  if (entered == 0) return ULONG_MAX;
+  by_pointer = lowest < entered ? entered - lowest : 0;
   /* Two patterns, so that an octet that happens to hold one of them shows with the other. */
-  by_pattern = 0;
   for (int round = 0; round < 2; round++) {
     unsigned char pattern = round == 0 ? 0xA5 : 0x5A;
     size_t at = 0;
     memset(own_stack, pattern, sizeof own_stack);
     run_apart(run, 0);
     while (at < sizeof own_stack && own_stack[at] == pattern) at++;
-    unsigned long depth = own_stack + at < top ? (unsigned long)(top - (own_stack + at)) : 0;
-    if (depth > by_pattern) by_pattern = depth;
+    uintptr_t touched = (uintptr_t)(own_stack + at);
+    if (touched < entered && entered - touched > by_pattern) by_pattern = entered - touched;
   }
   return by_pointer > by_pattern ? by_pointer : by_pattern;
-}
-
-unsigned long meter_stack(call run) {
-  return deepest(run) - empty_stack;
 }
 
 double meter_time(call run, unsigned long times) {
@@ -107,6 +109,11 @@ static __attribute__((naked, noinline)) void known_touch(void) {
   __asm__ volatile("movb $1, -100(%rsp)\n\tret");
 }
 
+/* Takes 200 octets of stack and a return address, and calls the one above. */
+static __attribute__((naked, noinline)) void known_caller(void) {
+  __asm__ volatile("subq $200, %%rsp\n\tcall %P0\n\taddq $200, %%rsp\n\tret" ::"i"(known_touch));
+}
+
 int meter_start(void) {
   stack_t apart = { .ss_sp = signal_stack, .ss_flags = 0, .ss_size = sizeof signal_stack };
   struct sigaction action;
@@ -115,7 +122,8 @@ int meter_start(void) {
   action.sa_flags = SA_SIGINFO | SA_ONSTACK;
   if (sigaltstack(&apart, NULL) != 0 || sigaction(SIGTRAP, &action, NULL) != 0) return 0;
   empty_steps = meter_instructions(empty) - 1;
-  empty_stack = deepest(empty);
   return meter_instructions(known_loop) == 2002 && meter_instructions(known_stack) == 5 && meter_instructions(known_touch) == 2 &&
-         meter_stack(known_loop) == 0 && meter_stack(known_stack) == 776 && meter_stack(known_touch) == 100;
+         meter_stack(known_loop, known_loop) == 0 && meter_stack(known_stack, known_stack) == 776 &&
+         meter_stack(known_touch, known_touch) == 100 && meter_stack(known_caller, known_touch) == 100 &&
+         meter_stack(known_caller, known_caller) == 308 && meter_stack(known_loop, known_touch) == ULONG_MAX;
 }

@@ -13,9 +13,9 @@ int meter_start(void);
 /* Instructions of one call, the calling itself not counted. */
 unsigned long meter_instructions(call run);
 
-/* Octets of stack that a call takes below its return address: the deeper of the lowest stack pointer seen and the
-   lowest octet overwritten. */
-unsigned long meter_stack(call run);
+/* Octets of stack that the function `entry` takes below its return address, where `run` calls it: the deeper of the lowest
+   stack pointer seen and the lowest octet overwritten. What `run` itself takes is not counted. */
+unsigned long meter_stack(call run, call entry);
 
 /* Nanoseconds of one call, as the mean over `times` calls. */
 double meter_time(call run, unsigned long times);
