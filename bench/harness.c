@@ -89,9 +89,10 @@ static const side plain = { "plain", nothing_to_load, plain_prepare, plain_run, 
 
 static uint8_t copied[512];
 
-static const char *copy_prepare(const one_case *c) {
-  return strcmp(c->kind, "refused") == 0 ? "has no octets here" : NULL;
-}
+/* The texts of these kinds are refused for their last unit. */
+static int is_refused(const char *kind) { return strcmp(kind, "refused") == 0 || strcmp(kind, "circumflex") == 0; }
+
+static const char *copy_prepare(const one_case *c) { return is_refused(c->kind) ? "has no octets here" : NULL; }
 
 static void copy_run(void) { memcpy(copied, given.octets, given.octets_len); }
 
@@ -256,6 +257,7 @@ static void make_text(size_t length) {
     else given.text[i] = (uint16_t)(i % 7 == 6 ? ' ' : i % 7 == 0 ? 'A' + i % 26 : 'a' + i % 26);
   }
   if (strcmp(given.kind, "refused") == 0) given.text[given.units - 1] = 0x4E2D;
+  if (strcmp(given.kind, "circumflex") == 0) given.text[given.units - 1] = 0x00EA;
 }
 
 /* To read, and to copy: what the library writes for the text. */
@@ -281,7 +283,7 @@ static void do_text(const char *kind, size_t most, int all) {
   for (size_t i = 0; all ? i <= most : i < lengths_len; i++) {
     size_t length = all ? i : lengths[i];
     if (length > most || (two && length % 2 != 0) || (two && length == 0)) continue;
-    if (strcmp(kind, "refused") == 0 && length == 0) continue;
+    if (is_refused(kind) && length == 0) continue;
     make_text(length);
     write_octets();
     do_case();
@@ -389,6 +391,7 @@ int main(int words_len, char **words) {
       do_text("extension", most[given.service], all);
       do_text("euro", most[given.service], all);
       if (given.writing) do_text("refused", most[given.service], all);
+      if (given.writing) do_text("circumflex", most[given.service], all);
     }
     given.alphabet = 2;
     given.service = SMS;

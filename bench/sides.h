@@ -12,7 +12,7 @@ typedef struct {
   int writing;                 /* 1 text into octets, 0 octets into text */
   uint32_t service;            /* SMS, PAGE or USSD */
   uint8_t alphabet;            /* 0 7-bit, 2 UCS2 */
-  const char *kind;            /* letters, extension, euro, refused, han */
+  const char *kind;            /* letters, extension, euro, refused, circumflex, han */
   size_t length;               /* septets of the text, or its units in UCS2 */
   size_t units;
   uint16_t text[256];
