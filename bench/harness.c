@@ -1,0 +1,402 @@
+/* The benchmark's harness: gives the same cases to every side, holds each answer to the library's, then measures.
+
+     harness LENGTHS MEASURE SIDE..
+     harness repeat TIMES
+
+   LENGTHS is `listed` or `all` (every length that the service holds). MEASURE is `count` (x86-64 instructions, and the
+   library's stack) or `time`. It prints one line for each case and side, tab-separated, under a line of headings; a side
+   that answers something else than the library is not measured. Progress and differences go to standard error.
+
+   `repeat` writes 160 letters TIMES times over, in three instructions a turn besides the call, for an emulator that counts by
+   itself. With TIMES 0 it prints its own count of that call. */
+#define _GNU_SOURCE
+#include "plain.h"
+#include "sides.h"
+#include "wikuay.h"
+#include <stdio.h>
+#include <stdlib.h>
+#include <string.h>
+
+enum { ROUNDS = 31, COUNTS = 3, MOST_SIDES = 8 };
+
+static one_case given;
+static uint8_t octets[ROOM_OCTETS];
+static uint16_t units[ROOM_UNITS];
+
+static void out_to_answer(one_answer *got) {
+  if (given.writing) memcpy(got->octets, octets, sizeof octets);
+  else memcpy(got->units, units, sizeof units);
+}
+
+static const char *nothing_to_load(void) { return NULL; }
+
+/* ---- the library, through its C calls ---- */
+
+static wikuay_answer wrote;
+static wikuay_read_answer read;
+static wikuay_reading reading;
+
+static const char *ours_prepare(const one_case *c) {
+  reading = wikuay_plain();
+  reading.alphabet = c->alphabet;
+  return NULL;
+}
+
+static void ours_run(void) {
+  if (given.writing) wrote = wikuay_write_message(given.service, reading, given.text, given.units, octets, ROOM_OCTETS);
+  else read = wikuay_read_message(given.service, given.coding, given.count, given.octets, given.octets_len, units, ROOM_UNITS);
+}
+
+static call ours_entry(void) { return given.writing ? (call)wikuay_write_message : (call)wikuay_read_message; }
+
+static void ours_answer(one_answer *got) {
+  got->refusal = given.writing ? wrote.refusal : read.refusal;
+  got->position = given.writing ? wrote.position : read.position;
+  got->written = given.writing ? wrote.written : read.written;
+  got->count = given.writing ? wrote.count : 0;
+  got->coding = given.writing ? wrote.coding : 0;
+  out_to_answer(got);
+}
+
+static const side ours = { "wikuay", nothing_to_load, ours_prepare, ours_run, ours_answer };
+
+/* ---- the plain C loop ---- */
+
+static plain_answer plainly;
+
+static const char *plain_prepare(const one_case *c) {
+  (void)c;
+  return NULL;
+}
+
+static void plain_run(void) {
+  if (given.writing) plainly = plain_write(given.service, given.alphabet, given.text, given.units, octets, ROOM_OCTETS);
+  else plainly = plain_read(given.service, given.coding, given.count, given.octets, given.octets_len, units, ROOM_UNITS);
+}
+
+static void plain_result(one_answer *got) {
+  got->refusal = plainly.refusal;
+  got->position = plainly.position;
+  got->written = plainly.written;
+  got->count = plainly.count;
+  got->coding = plainly.coding;
+  out_to_answer(got);
+}
+
+static const side plain = { "plain", nothing_to_load, plain_prepare, plain_run, plain_result };
+
+/* ---- the floors: a copy of the message's octets, and for UCS2 the loop that swaps them ---- */
+
+static uint8_t copied[512];
+
+/* The texts of these kinds are refused for their last unit. */
+static int is_refused(const char *kind) { return strcmp(kind, "refused") == 0 || strcmp(kind, "circumflex") == 0; }
+
+static const char *copy_prepare(const one_case *c) { return is_refused(c->kind) ? "has no octets here" : NULL; }
+
+static void copy_run(void) { memcpy(copied, given.octets, given.octets_len); }
+
+static void copy_answer(one_answer *got) {
+  /* It gives no text. On writing it has the octets. */
+  if (given.writing) {
+    got->written = given.octets_len;
+    memcpy(got->octets, copied, given.octets_len);
+  }
+}
+
+static const side copy = { "copy", nothing_to_load, copy_prepare, copy_run, copy_answer };
+
+static const char *swap_prepare(const one_case *c) { return c->alphabet == 2 ? NULL : "is for UCS2"; }
+
+static void swap_run(void) {
+  if (given.writing) plain_swap_out(given.text, given.units, octets);
+  else plain_swap_in(given.octets, given.octets_len / 2, units);
+}
+
+static void swap_answer(one_answer *got) {
+  got->written = given.writing ? 2 * given.units : given.octets_len / 2;
+  out_to_answer(got);
+}
+
+static const side swap = { "swap", nothing_to_load, swap_prepare, swap_run, swap_answer };
+
+/* ---- one case ---- */
+
+static const side *const every_side[] = { &ours, &plain, &swap, &copy, &peer_libosmocore, &peer_gammu, &peer_wireshark };
+static const side *sides[MOST_SIDES];
+static int sides_len;
+static int timing;
+static int plain_differs;
+static int counts_len = COUNTS;
+
+static const char *service_name(void) {
+  static const char *const names[] = { "sms", "page", "ussd" };
+  return given.alphabet == 2 ? "sms-ucs2" : names[given.service];
+}
+
+static void run_side(const side *s, one_answer *got) {
+  memset(octets, 0xA5, sizeof octets);
+  memset(units, 0xA5, sizeof units);
+  s->run();
+  s->answer(got);
+}
+
+static void say_answer(const one_answer *a) {
+  if (a->refusal != 0) {
+    fprintf(stderr, "refusal %u at %zu", (unsigned)a->refusal, a->position);
+    return;
+  }
+  fprintf(stderr, "%zu %s, count %u, the last", a->written, given.writing ? "octets" : "units", (unsigned)a->count);
+  for (size_t i = a->written > 3 ? a->written - 3 : 0; i < a->written && i < 512; i++)
+    fprintf(stderr, given.writing ? " %02X" : " %04X", given.writing ? a->octets[i] : a->units[i]);
+}
+
+static int same(const one_answer *a, const one_answer *b) {
+  if (a->refusal != b->refusal || a->position != b->position || a->written != b->written) return 0;
+  if (a->refusal != 0) return 1;
+  if (a->count != b->count || a->coding != b->coding) return 0;
+  return given.writing ? memcmp(a->octets, b->octets, a->written) == 0
+                       : memcmp(a->units, b->units, a->written * sizeof a->units[0]) == 0;
+}
+
+static int by_size(const void *a, const void *b) {
+  double x = *(const double *)a, y = *(const double *)b;
+  return x < y ? -1 : x > y;
+}
+
+static int by_count(const void *a, const void *b) {
+  unsigned long x = *(const unsigned long *)a, y = *(const unsigned long *)b;
+  return x < y ? -1 : x > y;
+}
+
+static void do_case(void) {
+  one_answer expected, got;
+  const char *verdict[MOST_SIDES];
+  static double ns[MOST_SIDES][ROUNDS], ratio[MOST_SIDES][ROUNDS];
+
+  memset(&expected, 0, sizeof expected);
+  ours_prepare(&given);
+  run_side(&ours, &expected);
+  for (int s = 0; s < sides_len; s++) {
+    const char *reason = sides[s]->prepare(&given);
+    if (reason != NULL) {
+      verdict[s] = "none";
+      continue;
+    }
+    got = expected;
+    run_side(sides[s], &got);
+    verdict[s] = same(&expected, &got) ? "same" : "differs";
+    if (strcmp(verdict[s], "differs") == 0) {
+      fprintf(stderr, "bench: differs: %s %s %s %zu: %s answers ", given.writing ? "write" : "read", service_name(), given.kind,
+              given.length, sides[s]->name);
+      say_answer(&got);
+      fprintf(stderr, "; wikuay answers ");
+      say_answer(&expected);
+      fprintf(stderr, "\n");
+      if (sides[s] == &plain) plain_differs = 1;
+    }
+  }
+  if (timing) {
+    unsigned long times[MOST_SIDES];
+    for (int s = 0; s < sides_len; s++) {
+      if (strcmp(verdict[s], "same") != 0) continue;
+      sides[s]->prepare(&given);
+      times[s] = 16;
+      while (times[s] < 1u << 24 && meter_time(sides[s]->run, times[s]) * (double)times[s] < 400e3) times[s] *= 2;
+    }
+    /* The sides take turns in every round, so that what slows the machine slows all of them. */
+    for (int r = 0; r < ROUNDS; r++)
+      for (int s = 0; s < sides_len; s++) {
+        if (strcmp(verdict[s], "same") != 0) continue;
+        sides[s]->prepare(&given);
+        ns[s][r] = meter_time(sides[s]->run, times[s]);
+        ratio[s][r] = ns[s][r] / ns[0][r];
+      }
+  }
+  for (int s = 0; s < sides_len; s++) {
+    printf("%s\t%s\t%s\t%zu\t%zu\t%s\t%s", given.writing ? "write" : "read", service_name(), given.kind, given.length, given.units,
+           sides[s]->name, verdict[s]);
+    if (strcmp(verdict[s], "same") != 0) {
+      printf(timing ? "\t-\t-\t-\t-\t-\t-\n" : "\t-\t-\n");
+      continue;
+    }
+    sides[s]->prepare(&given);
+    if (timing) {
+      qsort(ns[s], ROUNDS, sizeof ns[s][0], by_size);
+      qsort(ratio[s], ROUNDS, sizeof ratio[s][0], by_size);
+      printf("\t%.1f\t%.1f\t%.1f\t%.3f\t%.3f\t%.3f\n", ns[s][ROUNDS / 2], ns[s][ROUNDS / 4], ns[s][ROUNDS * 3 / 4],
+             ratio[s][ROUNDS / 2], ratio[s][ROUNDS / 4], ratio[s][ROUNDS * 3 / 4]);
+    } else {
+      unsigned long counts[COUNTS];
+      for (int c = 0; c < counts_len; c++) counts[c] = meter_instructions(sides[s]->run);
+      qsort(counts, (size_t)counts_len, sizeof counts[0], by_count);
+      if (counts[0] != counts[counts_len - 1]) {
+        /* A peer that asks for storage depends on what the storage held before: its median stands. */
+        fprintf(stderr, "bench: %s: the count varies from %lu to %lu\n", sides[s]->name, counts[0], counts[counts_len - 1]);
+        if (sides[s] == &ours || sides[s] == &plain) exit(1);
+      }
+      unsigned long middle = counts[counts_len / 2];
+      if (sides[s] == &ours) printf("\t%lu\t%lu\n", middle, meter_stack(sides[s]->run, ours_entry()));
+      else printf("\t%lu\t-\n", middle);
+    }
+  }
+  fflush(stdout);
+}
+
+/* ---- all cases ---- */
+
+static void make_text(size_t length) {
+  static const uint16_t brackets[] = { '[', ']', '{', '}', '\\', '~', '^', '|' };
+  int two = strcmp(given.kind, "extension") == 0 || strcmp(given.kind, "euro") == 0;
+  given.length = length;
+  given.units = two ? length / 2 : length;
+  for (size_t i = 0; i < given.units; i++) {
+    if (strcmp(given.kind, "extension") == 0) given.text[i] = brackets[i % 8];
+    else if (strcmp(given.kind, "euro") == 0) given.text[i] = 0x20AC;
+    else if (strcmp(given.kind, "han") == 0) given.text[i] = (uint16_t)(0x4E00 + 37 * i);
+    else given.text[i] = (uint16_t)(i % 7 == 6 ? ' ' : i % 7 == 0 ? 'A' + i % 26 : 'a' + i % 26);
+  }
+  if (strcmp(given.kind, "refused") == 0) given.text[given.units - 1] = 0x4E2D;
+  if (strcmp(given.kind, "circumflex") == 0) given.text[given.units - 1] = 0x00EA;
+}
+
+/* To read, and to copy: what the library writes for the text. */
+static void write_octets(void) {
+  int writing = given.writing;
+  given.writing = 1;
+  ours_prepare(&given);
+  ours_run();
+  memcpy(given.octets, octets, wrote.written);
+  given.octets_len = wrote.written;
+  given.coding = wrote.coding;
+  given.count = wrote.count;
+  given.writing = writing;
+}
+
+static void do_text(const char *kind, size_t most, int all) {
+  static const size_t listed[] = { 0, 1, 7, 8, 93, 160, 182 }, listed_two[] = { 2, 8, 92, 160, 182 }, listed_ucs2[] = { 0, 1, 7, 8, 41, 70 };
+  int two = strcmp(kind, "extension") == 0 || strcmp(kind, "euro") == 0;
+  const size_t *lengths = given.alphabet == 2 ? listed_ucs2 : two ? listed_two : listed;
+  size_t lengths_len = given.alphabet == 2 ? 6 : two ? 5 : 7;
+  given.kind = kind;
+  fprintf(stderr, "bench: %s %s %s\n", given.writing ? "write" : "read", service_name(), kind);
+  for (size_t i = 0; all ? i <= most : i < lengths_len; i++) {
+    size_t length = all ? i : lengths[i];
+    if (length > most || (two && length % 2 != 0) || (two && length == 0)) continue;
+    if (is_refused(kind) && length == 0) continue;
+    make_text(length);
+    write_octets();
+    do_case();
+  }
+}
+
+/* ---- the library's other calls: instructions and stack, with nothing beside them ---- */
+
+static uint8_t septets[182];
+
+static void run_read_coding(void) { read = wikuay_read_coding(WIKUAY_SHORT_MESSAGE, 0xE9); }
+static void run_write_coding(void) { wrote = wikuay_write_coding(WIKUAY_SHORT_MESSAGE, reading); }
+static void run_write_coding_page(void) { wrote = wikuay_write_coding(WIKUAY_BROADCAST, reading); }
+static void run_holds_text(void) { read = wikuay_holds_text(reading); }
+static void run_text_to_septets(void) { wrote = wikuay_text_to_septets(given.text, 182, septets, 182); }
+static void run_septets_to_text(void) { wrote = wikuay_septets_to_text(septets, 182, units, 182); }
+static void run_pack(void) { wrote = wikuay_pack(WIKUAY_USSD, septets, 182, octets, 160); }
+static void run_unpack(void) { wrote = wikuay_unpack(WIKUAY_USSD, octets, 160, 0, septets, 182); }
+static void run_old_page(void) { read = wikuay_read_message(WIKUAY_OLD_PAGE, 0, 0, octets, 82, units, ROOM_UNITS); }
+
+static void do_other_calls(void) {
+  static const struct {
+    const char *name, *what;
+    size_t length;
+    call run, entry;
+  } others[] = {
+    { "wikuay_read_coding", "short message, E9", 0, run_read_coding, (call)wikuay_read_coding },
+    { "wikuay_write_coding", "short message, plain", 0, run_write_coding, (call)wikuay_write_coding },
+    { "wikuay_write_coding", "broadcast page, plain", 0, run_write_coding_page, (call)wikuay_write_coding },
+    { "wikuay_holds_text", "plain", 0, run_holds_text, (call)wikuay_holds_text },
+    { "wikuay_text_to_septets", "letters", 182, run_text_to_septets, (call)wikuay_text_to_septets },
+    { "wikuay_septets_to_text", "letters", 182, run_septets_to_text, (call)wikuay_septets_to_text },
+    { "wikuay_pack", "USSD, letters", 182, run_pack, (call)wikuay_pack },
+    { "wikuay_unpack", "USSD, letters", 182, run_unpack, (call)wikuay_unpack },
+    { "wikuay_read_message", "old page, letters", 93, run_old_page, (call)wikuay_read_message },
+  };
+  fprintf(stderr, "bench: the other calls\n");
+  given.kind = "letters";
+  make_text(182);
+  reading = wikuay_plain();
+  for (size_t i = 0; i < sizeof others / sizeof others[0]; i++) {
+    others[i].run();
+    if (wrote.refusal != 0 || read.refusal != 0) {
+      fprintf(stderr, "bench: %s refuses\n", others[i].name);
+      exit(1);
+    }
+    unsigned long count = meter_instructions(others[i].run);
+    printf("other\t%s\t%s\t%zu\t%zu\twikuay\tsame\t%lu\t%lu\n", others[i].name, others[i].what, others[i].length, others[i].length, count,
+           meter_stack(others[i].run, others[i].entry));
+  }
+}
+
+static int repeat(unsigned long times) {
+  given.writing = 1;
+  given.kind = "letters";
+  make_text(160);
+  ours_prepare(&given);
+  if (times == 0) {
+    if (!meter_start()) return 3;
+    ours_run();
+    printf("%lu\n", meter_instructions(ours_run));
+    return 0;
+  }
+  __asm__ volatile("1:\tcall *%[run]\n\tdecq %[times]\n\tjnz 1b"
+                   : [times] "+r"(times)
+                   : [run] "r"(ours_run)
+                   : "rax", "rcx", "rdx", "rsi", "rdi", "r8", "r9", "r10", "r11", "xmm0", "xmm1", "xmm2", "xmm3", "xmm4", "xmm5", "xmm6",
+                     "xmm7", "xmm8", "xmm9", "xmm10", "xmm11", "xmm12", "xmm13", "xmm14", "xmm15", "memory", "cc");
+  return 0;
+}
+
+int main(int words_len, char **words) {
+  if (words_len == 3 && strcmp(words[1], "repeat") == 0) return repeat(strtoul(words[2], NULL, 10));
+  if (words_len < 4) {
+    fprintf(stderr, "harness: give LENGTHS MEASURE SIDE..\n");
+    return 2;
+  }
+  int all = strcmp(words[1], "all") == 0;
+  timing = strcmp(words[2], "time") == 0;
+  /* The listed lengths show that the count repeats. Over all lengths one count does. */
+  if (all) counts_len = 1;
+  for (int w = 3; w < words_len; w++) {
+    const side *found = NULL;
+    for (size_t s = 0; s < sizeof every_side / sizeof every_side[0]; s++)
+      if (strcmp(words[w], every_side[s]->name) == 0) found = every_side[s];
+    const char *reason = found == NULL ? "there is no such side" : found->load();
+    if (reason != NULL) fprintf(stderr, "bench: %s is left out: %s\n", words[w], reason);
+    else sides[sides_len++] = found;
+  }
+  if (sides_len == 0 || sides[0] != &ours) {
+    fprintf(stderr, "harness: the first side is wikuay\n");
+    return 2;
+  }
+  if (!timing && !meter_start()) {
+    fprintf(stderr, "bench: instructions cannot be counted here: known loops give other counts\n");
+    return 3;
+  }
+  printf(timing ? "direction\tservice\ttext\tlength\tunits\tside\tanswer\tns\tns_low\tns_high\tratio\tratio_low\tratio_high\n"
+                : "direction\tservice\ttext\tlength\tunits\tside\tanswer\tinstructions\tstack\n");
+  for (given.writing = 1; given.writing >= 0; given.writing--) {
+    static const size_t most[] = { 160, 93, 182 };
+    given.alphabet = 0;
+    for (given.service = SMS; given.service <= USSD; given.service++) {
+      do_text("letters", most[given.service], all);
+      do_text("extension", most[given.service], all);
+      do_text("euro", most[given.service], all);
+      if (given.writing) do_text("refused", most[given.service], all);
+      if (given.writing) do_text("circumflex", most[given.service], all);
+    }
+    given.alphabet = 2;
+    given.service = SMS;
+    do_text("han", 70, all);
+  }
+  if (!timing) do_other_calls();
+  return plain_differs;
+}

@@ -1,0 +1,210 @@
+#!/usr/bin/env python3
+"""Holds the harness's figures and the archive to the limits. Prints a line for each limit that is broken, then a total.
+
+    judge.py TABLE ARCHIVE      the harness's table (tab-separated), and libwikuay.a or one object file
+    judge.py --size ARCHIVE     what the archive holds, and nothing judged
+    judge.py --self-test        shows that every limit can be broken
+"""
+import collections
+import struct
+import sys
+
+Row = collections.namedtuple("Row", "direction service text length side answer cost stack")
+
+# Instructions to write and to read 160 letters as a 7-bit short message. The other services cost the same a septet.
+MOST = {"write": 2000, "read": 1600}
+FULL = {"sms": 160, "page": 93, "ussd": 182}
+FULL_UCS2 = 70
+# Texts that are refused for their last unit.
+REFUSED = ("refused", "circumflex")
+ARCHIVE_OCTETS = 32 * 1024
+STACK_OCTETS = 1024
+# From this length on the library is at least as fast as the plain loop.
+FROM = 8
+MOST_LINES = 250
+# What the archive may ask of its caller's C library: plain memory, and no storage.
+MAY_ASK = {"memcpy", "memmove", "memset", "memcmp", "bcmp"}
+
+
+def read_table(lines):
+    """The rows of a table, and whether it holds times (ratios to the library) or instructions."""
+    lines = [line.rstrip("\n").split("\t") for line in lines if not line.startswith("#")]
+    names, body = lines[0], lines[1:]
+    timed = "ratio" in names
+    rows = []
+    for line in body:
+        field = dict(zip(names, line))
+        cost = field["ratio"] if timed else field["instructions"]
+        rows.append(Row(field["direction"], field["service"], field["text"], int(field["length"]), field["side"], field["answer"],
+                        None if cost == "-" else float(cost),
+                        None if field.get("stack", "-") == "-" else int(field["stack"])))
+    return rows, timed
+
+
+def broken_by_figures(rows, timed):
+    """A line for each limit that the figures break, and how many were judged."""
+    cost = {(r.direction, r.service, r.text, r.length, r.side): r.cost for r in rows if r.answer == "same"}
+    broken, judged = [], 0
+
+    def hold(name, got, most):
+        nonlocal judged
+        judged += 1
+        if most is None:
+            broken.append(f"{name}: there is nothing to hold it against")
+        elif not got <= most:
+            broken.append(f"{name}: {got:g}, at most {most:g}")
+
+    for r in rows:
+        if r.side == "plain" and r.answer != "same":
+            broken.append(f"{r.direction} {r.service} {r.text} {r.length}: the plain loop answers something else")
+        if r.side != "wikuay":
+            continue
+        key = (r.direction, r.service, r.text, r.length)
+        name = " ".join(map(str, key))
+        if r.text in REFUSED:
+            if not timed:
+                accepted = cost.get((r.direction, r.service, "letters", r.length, "wikuay"))
+                hold(f"{name}: a refusal against the accepted text", r.cost, accepted)
+        elif r.service in FULL and r.length >= FROM:
+            plain = cost.get(key + ("plain",))
+            # The spread of a time is not a fault: a tenth is allowed there.
+            hold(f"{name}: against the plain loop", r.cost, plain and plain * (1.1 if timed else 1))
+        if not timed and r.text == "letters" and r.length == FULL.get(r.service):
+            hold(f"{name}: instructions", r.cost, MOST[r.direction] * r.length // FULL["sms"])
+        if not timed and r.service == "sms-ucs2" and r.length == FULL_UCS2:
+            swap = cost.get(key + ("swap",))
+            hold(f"{name}: against twice the loop that swaps", r.cost, swap and 2 * swap)
+        if not timed:
+            hold(f"{name}: octets of stack", r.stack, STACK_OCTETS - 1)
+    return broken, judged
+
+
+def members(archive):
+    """The object files of an archive. An object file stands for itself."""
+    if archive[:4] == b"\x7fELF":
+        yield archive
+        return
+    if archive[:8] != b"!<arch>\n":
+        raise SystemExit("judge: this is no archive")
+    at = 8
+    while at + 60 <= len(archive):
+        head = archive[at:at + 60]
+        size = int(head[48:58])
+        body = archive[at + 60:at + 60 + size]
+        if body[:4] == b"\x7fELF":
+            yield body
+        at += 60 + size + size % 2
+
+
+def archive_holds(archive):
+    """Of an archive: octets of code, of read-only data, of written data, and the names that it asks for."""
+    code = tables = state = 0
+    asked, given = set(), set()
+    for elf in members(archive):
+        start, = struct.unpack_from("<Q", elf, 40)
+        size, number = struct.unpack_from("<HH", elf, 58)
+        sections = [struct.unpack_from("<IIQQQQIIQQ", elf, start + i * size) for i in range(number)]
+        for section in sections:
+            kind, flags, octets = section[1], section[2], section[5]
+            if flags & 2:  # it takes room in memory
+                if flags & 1:
+                    state += octets
+                elif flags & 4:
+                    code += octets
+                else:
+                    tables += octets
+            if kind == 2:  # names
+                texts = sections[section[6]][4]
+                for at in range(section[4], section[4] + octets, 24):
+                    name, info, _, where = struct.unpack_from("<IBBH", elf, at)
+                    word = elf[texts + name:elf.index(b"\0", texts + name)].decode()
+                    if word and info >> 4:
+                        (given if where else asked).add(word)
+    return code, tables, state, asked - given
+
+
+def broken_by_archive(archive):
+    code, tables, state, asked = archive_holds(archive)
+    broken = []
+    if not 0 < code + tables + state < ARCHIVE_OCTETS:
+        broken.append(f"archive: code {code} and tables {tables} octets, less than {ARCHIVE_OCTETS} together")
+    if state:
+        broken.append(f"archive: {state} octets of state, none wanted")
+    for name in sorted(asked - MAY_ASK):
+        broken.append(f"archive: asks for {name}")
+    return broken, f"code {code}, tables {tables}, state {state} octets; asks for {' '.join(sorted(asked)) or 'nothing'}"
+
+
+def self_test():
+    """Breaks each limit alone, in figures that keep all of them, and looks that this one is named."""
+    rows = []
+    for direction in ("write", "read"):
+        for service, full in FULL.items():
+            for text in ("letters", "extension") + REFUSED:
+                if text in REFUSED and direction == "read":
+                    continue
+                for length in (FROM - 2, FROM, full - full % 2 if text == "extension" else full):
+                    rows.append(Row(direction, service, text, length, "wikuay", "same", 9.0 * length, 400))
+                    rows.append(Row(direction, service, text, length, "plain", "same", 9.0 * length, None))
+        for side, each in (("wikuay", 8), ("plain", 6), ("swap", 4)):
+            rows.append(Row(direction, "sms-ucs2", "han", FULL_UCS2, side, "same", each * FULL_UCS2, 400))
+    clean, judged = broken_by_figures(rows, False)
+    assert clean == [] and judged > 40, (clean, judged)
+
+    def breaks(words, pick, **change):
+        found = [i for i, r in enumerate(rows) if pick(r)]
+        assert found, words
+        for i in found:
+            edited = rows[:i] + [rows[i]._replace(**change)] + rows[i + 1:]
+            told, _ = broken_by_figures(edited, False)
+            assert any(words in line for line in told), (words, rows[i], told)
+
+    def is_ours(r):
+        return r.side == "wikuay"
+
+    for direction in MOST:
+        for service, full in FULL.items():
+            def whole(r):
+                return is_ours(r) and (r.direction, r.service, r.text, r.length) == (direction, service, "letters", full)
+            breaks(": instructions", whole, cost=MOST[direction] * full // 160 + 1)
+            breaks("plain loop", whole, cost=9.0 * full + 1)
+    breaks("plain loop", lambda r: is_ours(r) and r.service in FULL and r.text == "extension" and r.length >= FROM, cost=9.0 * 182 + 1)
+    breaks("a refusal", lambda r: is_ours(r) and r.text in REFUSED, cost=9.0 * 182 + 1)
+    breaks("loop that swaps", lambda r: is_ours(r) and r.service == "sms-ucs2", cost=8 * FULL_UCS2 + 1)
+    breaks("octets of stack", is_ours, stack=STACK_OCTETS)
+    breaks("something else", lambda r: r.side == "plain" and r.service != "sms-ucs2", answer="differs", cost=9.0)
+    slow = [r._replace(cost=2 * r.cost if is_ours(r) and r.text not in REFUSED else r.cost) for r in rows]
+    assert any("plain loop" in line for line in broken_by_figures(slow, True)[0])
+    print("judge: every limit on the figures can be broken")
+
+
+def main(words):
+    if words == ["--self-test"]:
+        return self_test()
+    if len(words) != 2:
+        raise SystemExit(__doc__)
+    if words[0] == "--size":
+        with open(words[1], "rb") as archive:
+            print(broken_by_archive(archive.read())[1])
+        return 0
+    with open(words[0], encoding="ascii") as table:
+        rows, timed = read_table(table)
+    with open(words[1], "rb") as archive:
+        broken, about = broken_by_archive(archive.read())
+    told, judged = broken_by_figures(rows, timed)
+    broken += told
+    print("archive: " + about)
+    if not timed:
+        print(f"stack: at most {max(r.stack for r in rows if r.stack is not None)} octets a call")
+    for line in broken[:MOST_LINES]:
+        print("over the limit: " + line)
+    if len(broken) > MOST_LINES:
+        print(f"over the limit: {len(broken) - MOST_LINES} more")
+    if timed:
+        print("not judged, since instructions cannot be counted here: instructions of a whole message, UCS2, refusals, stack")
+    print(f"{judged + 3} limits judged, {len(broken)} broken")
+    return 1 if broken else 0
+
+
+if __name__ == "__main__":
+    sys.exit(main(sys.argv[1:]))

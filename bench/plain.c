@@ -1,0 +1,225 @@
+/* The baseline of the benchmark, see plain.h: a table from unit to code, a bit accumulator, one loop for each step.
+   It makes the same tests as the library and stores nothing in a refusal, so that both do the same work. */
+#include "plain.h"
+#include <string.h>
+
+enum { CR = 0x0D, ESCAPE = 0x1B };
+enum { LISTED = 0x100, EXTENSION = 0x200 };
+#define M(code) (LISTED | (code))
+#define E(code) (LISTED | EXTENSION | (code))
+
+/* Units below 0100 by their code; 0 is unlisted. */
+static const uint16_t entry_of[256] = {
+  [0x0A] = M(0x0A), [0x0C] = E(0x0A), [0x0D] = M(0x0D),
+  [0x20] = M(0x20), M(0x21), M(0x22), M(0x23), M(0x02), M(0x25), M(0x26), M(0x27),
+  M(0x28), M(0x29), M(0x2A), M(0x2B), M(0x2C), M(0x2D), M(0x2E), M(0x2F),
+  M(0x30), M(0x31), M(0x32), M(0x33), M(0x34), M(0x35), M(0x36), M(0x37),
+  M(0x38), M(0x39), M(0x3A), M(0x3B), M(0x3C), M(0x3D), M(0x3E), M(0x3F),
+  M(0x00), M(0x41), M(0x42), M(0x43), M(0x44), M(0x45), M(0x46), M(0x47),
+  M(0x48), M(0x49), M(0x4A), M(0x4B), M(0x4C), M(0x4D), M(0x4E), M(0x4F),
+  M(0x50), M(0x51), M(0x52), M(0x53), M(0x54), M(0x55), M(0x56), M(0x57),
+  M(0x58), M(0x59), M(0x5A), E(0x3C), E(0x2F), E(0x3E), E(0x14), M(0x11),
+  [0x61] = M(0x61), M(0x62), M(0x63), M(0x64), M(0x65), M(0x66), M(0x67),
+  M(0x68), M(0x69), M(0x6A), M(0x6B), M(0x6C), M(0x6D), M(0x6E), M(0x6F),
+  M(0x70), M(0x71), M(0x72), M(0x73), M(0x74), M(0x75), M(0x76), M(0x77),
+  M(0x78), M(0x79), M(0x7A), E(0x28), E(0x40), E(0x29), E(0x3D),
+  [0xA1] = M(0x40), [0xA3] = M(0x01), M(0x24), M(0x03), [0xA7] = M(0x5F), [0xBF] = M(0x60),
+  [0xC4] = M(0x5B), M(0x0E), M(0x1C), M(0x09), [0xC9] = M(0x1F), [0xD1] = M(0x5D), [0xD6] = M(0x5C),
+  [0xD8] = M(0x0B), [0xDC] = M(0x5E), [0xDF] = M(0x1E), M(0x7F), [0xE4] = M(0x7B), M(0x0F), M(0x1D),
+  [0xE8] = M(0x04), M(0x05), [0xEC] = M(0x07), [0xF1] = M(0x7D), M(0x08), [0xF6] = M(0x7C),
+  [0xF8] = M(0x0C), M(0x06), [0xFC] = M(0x7E),
+};
+
+/* Codes by their unit; an escape has none. */
+static const uint16_t main_unit[128] = {
+  0x0040, 0x00A3, 0x0024, 0x00A5, 0x00E8, 0x00E9, 0x00F9, 0x00EC, 0x00F2, 0x00C7, 0x000A, 0x00D8, 0x00F8, 0x000D, 0x00C5, 0x00E5,
+  0x0394, 0x005F, 0x03A6, 0x0393, 0x039B, 0x03A9, 0x03A0, 0x03A8, 0x03A3, 0x0398, 0x039E, 0x0020, 0x00C6, 0x00E6, 0x00DF, 0x00C9,
+  0x0020, 0x0021, 0x0022, 0x0023, 0x00A4, 0x0025, 0x0026, 0x0027, 0x0028, 0x0029, 0x002A, 0x002B, 0x002C, 0x002D, 0x002E, 0x002F,
+  0x0030, 0x0031, 0x0032, 0x0033, 0x0034, 0x0035, 0x0036, 0x0037, 0x0038, 0x0039, 0x003A, 0x003B, 0x003C, 0x003D, 0x003E, 0x003F,
+  0x00A1, 0x0041, 0x0042, 0x0043, 0x0044, 0x0045, 0x0046, 0x0047, 0x0048, 0x0049, 0x004A, 0x004B, 0x004C, 0x004D, 0x004E, 0x004F,
+  0x0050, 0x0051, 0x0052, 0x0053, 0x0054, 0x0055, 0x0056, 0x0057, 0x0058, 0x0059, 0x005A, 0x00C4, 0x00D6, 0x00D1, 0x00DC, 0x00A7,
+  0x00BF, 0x0061, 0x0062, 0x0063, 0x0064, 0x0065, 0x0066, 0x0067, 0x0068, 0x0069, 0x006A, 0x006B, 0x006C, 0x006D, 0x006E, 0x006F,
+  0x0070, 0x0071, 0x0072, 0x0073, 0x0074, 0x0075, 0x0076, 0x0077, 0x0078, 0x0079, 0x007A, 0x00E4, 0x00F6, 0x00F1, 0x00FC, 0x00E0,
+};
+
+/* Codes behind an escape by their unit; 0 is unlisted, and escape escape is a space. */
+static const uint16_t extension_unit[128] = {
+  [0x0A] = 0x000C, [0x14] = 0x005E, [0x1B] = 0x0020, [0x28] = 0x007B, [0x29] = 0x007D, [0x2F] = 0x005C, [0x3C] = 0x005B,
+  [0x3D] = 0x007E, [0x3E] = 0x005D, [0x40] = 0x007C, [0x65] = 0x20AC,
+};
+
+static const uint8_t most_septets[3] = { 160, 93, 182 };
+static const uint8_t most_units[3] = { 70, 41, 80 };
+
+static plain_answer refused(uint32_t refusal, size_t position) {
+  plain_answer a = { refusal, 0, position, 0, 0 };
+  return a;
+}
+
+static unsigned find(uint16_t unit) {
+  if (unit < 256) return entry_of[unit];
+  switch (unit) {
+    case 0x0394: return M(0x10);
+    case 0x03A6: return M(0x12);
+    case 0x0393: return M(0x13);
+    case 0x039B: return M(0x14);
+    case 0x03A9: return M(0x15);
+    case 0x03A0: return M(0x16);
+    case 0x03A8: return M(0x17);
+    case 0x03A3: return M(0x18);
+    case 0x0398: return M(0x19);
+    case 0x039E: return M(0x1A);
+    case 0x20AC: return E(0x65);
+    default: return 0;
+  }
+}
+
+void plain_swap_out(const uint16_t *text, size_t text_len, uint8_t *out) {
+  for (size_t i = 0; i < text_len; i++) {
+    out[2 * i] = (uint8_t)(text[i] >> 8);
+    out[2 * i + 1] = (uint8_t)text[i];
+  }
+}
+
+void plain_swap_in(const uint8_t *octets, size_t units, uint16_t *out) {
+  for (size_t i = 0; i < units; i++) out[i] = (uint16_t)(octets[2 * i] << 8 | octets[2 * i + 1]);
+}
+
+static plain_answer write_ucs2(uint32_t service, const uint16_t *text, size_t text_len, uint8_t *out, size_t out_len) {
+  if (text_len > most_units[service]) return refused(5, 0);
+  size_t octets = service == 1 ? 82 : 2 * text_len;
+  if (octets > out_len) return refused(7, 0);
+  plain_swap_out(text, text_len, out);
+  for (size_t i = 2 * text_len; i < octets; i += 2) {
+    out[i] = 0;
+    out[i + 1] = CR;
+  }
+  plain_answer a = { 0, service == 0 ? (uint32_t)octets : 0, 0, octets, service == 0 ? 0x08 : 0x48 };
+  return a;
+}
+
+plain_answer plain_write(uint32_t service, uint8_t alphabet, const uint16_t *text, size_t text_len,
+                         uint8_t *out, size_t out_len) {
+  if (service > 2) return refused(8, 0);
+  if (alphabet == 2) return write_ucs2(service, text, text_len, out, out_len);
+  if (alphabet != 0) return refused(2, 0);
+
+  /* A unit takes one septet or two, so a text of at most `limit` units always has room here. */
+  uint8_t septets[2 * 182 + 1];
+  size_t limit = most_septets[service], used = 0;
+  for (size_t i = 0; i < text_len && text_len > limit; i++)
+    if (find(text[i]) == 0) return refused(6, i);
+  if (text_len > limit) return refused(5, 0);
+  for (size_t i = 0; i < text_len; i++) {
+    unsigned entry = find(text[i]);
+    if (entry == 0) return refused(6, i);
+    if (entry & EXTENSION) septets[used++] = ESCAPE;
+    septets[used++] = entry & 0x7F;
+  }
+  if (used > limit) return refused(5, 0);
+  size_t count = used;
+  if (service == 1) {
+    while (used < 93) septets[used++] = CR;
+  } else if (service == 2 && (used % 8 == 7 || (used > 0 && used % 8 == 0 && septets[used - 1] == CR))) {
+    septets[used++] = CR;
+  }
+  size_t octets = (7 * used + 7) / 8;
+  if (octets > out_len) return refused(7, 0);
+
+  uint32_t bits = 0;
+  unsigned held = 0;
+  size_t at = 0;
+  for (size_t i = 0; i < used; i++) {
+    bits |= (uint32_t)septets[i] << held;
+    held += 7;
+    if (held >= 8) {
+      out[at++] = (uint8_t)bits;
+      bits >>= 8;
+      held -= 8;
+    }
+  }
+  if (held > 0) out[at] = (uint8_t)bits;
+  plain_answer a = { 0, service == 0 ? (uint32_t)count : 0, 0, octets, service == 0 ? 0x00 : 0x0F };
+  return a;
+}
+
+/* 0 the coding holds 7-bit text, 16 it holds UCS2, else the refusal. */
+static uint32_t holds(uint32_t service, uint8_t coding) {
+  unsigned group = coding >> 4, low = coding & 0x0F;
+  if (service == 0 ? group < 8 : (group >= 4 && group < 8)) {
+    if ((low & 0x0C) == 0x0C) return 0;
+    if (group & 2) return 1;
+    return (low & 0x0C) == 0x04 ? 2 : (low & 0x0C) == 0x08 ? 16 : 0;
+  }
+  if (service == 0 && group == 14) return low & 4 ? 0 : 16;
+  if (service != 0 && group == 1) return low < 2 ? 3 : 0;
+  if (service != 0 && group == 14) return 2;
+  if (group == 15) return low & 8 ? 0 : low & 4 ? 2 : 0;
+  return 0;
+}
+
+static plain_answer read_ucs2(uint32_t service, size_t count, const uint8_t *octets, size_t octets_len,
+                              uint16_t *out, size_t out_len) {
+  if (octets_len % 2 != 0 || (service == 1 ? octets_len != 82 : octets_len > 2u * most_units[service])) return refused(4, 0);
+  if (count != (service == 0 ? octets_len : 0)) return refused(4, 0);
+  size_t units = octets_len / 2;
+  if (service == 1) {
+    while (units > 0 && octets[2 * units - 2] == 0 && octets[2 * units - 1] == CR) units--;
+  }
+  if (units > out_len) return refused(7, 0);
+  plain_swap_in(octets, units, out);
+  plain_answer a = { 0, 0, 0, units, 0 };
+  return a;
+}
+
+plain_answer plain_read(uint32_t service, uint8_t coding, size_t count, const uint8_t *octets, size_t octets_len,
+                        uint16_t *out, size_t out_len) {
+  if (service > 2) return refused(8, 0);
+  uint32_t held_text = holds(service, coding);
+  if (held_text == 16) return read_ucs2(service, count, octets, octets_len, out, out_len);
+  if (held_text != 0) return refused(held_text, 0);
+
+  size_t septets_len;
+  if (service == 0) {
+    if (count > 160 || octets_len != (7 * count + 7) / 8) return refused(4, 0);
+    septets_len = count;
+  } else {
+    if (count != 0 || (service == 1 ? octets_len != 82 : octets_len > 160)) return refused(4, 0);
+    septets_len = 8 * octets_len / 7;
+  }
+
+  uint8_t septets[184];
+  uint32_t bits = 0;
+  unsigned held = 0;
+  size_t at = 0;
+  for (size_t i = 0; i < septets_len; i++) {
+    if (held < 7) {
+      bits |= (uint32_t)octets[at++] << held;
+      held += 8;
+    }
+    septets[i] = bits & 0x7F;
+    bits >>= 7;
+    held -= 7;
+  }
+  if (service == 1) {
+    while (septets_len > 0 && septets[septets_len - 1] == CR) septets_len--;
+  } else if (service == 2 && octets_len > 0 && octets_len % 7 == 0 && septets[septets_len - 1] == CR) {
+    septets_len--;
+  }
+
+  uint16_t units[184];
+  size_t used = 0;
+  for (size_t i = 0; i < septets_len; i++) {
+    uint16_t unit = main_unit[septets[i]];
+    if (septets[i] == ESCAPE && i + 1 < septets_len) {
+      i++;
+      unit = extension_unit[septets[i]];
+      if (unit == 0) unit = main_unit[septets[i]];
+    }
+    units[used++] = unit;
+  }
+  if (used > out_len) return refused(7, 0);
+  memcpy(out, units, used * sizeof units[0]);
+  plain_answer a = { 0, 0, 0, used, 0 };
+  return a;
+}

@@ -1,0 +1,48 @@
+/* What the benchmark's harness and its sides share: a case, an answer, and a side. */
+#ifndef SIDES_H
+#define SIDES_H
+#include "meter.h"
+#include <stddef.h>
+#include <stdint.h>
+
+enum { SMS = 0, PAGE = 1, USSD = 2 };
+enum { ROOM_OCTETS = 160, ROOM_UNITS = 182 };
+
+typedef struct {
+  int writing;                 /* 1 text into octets, 0 octets into text */
+  uint32_t service;            /* SMS, PAGE or USSD */
+  uint8_t alphabet;            /* 0 7-bit, 2 UCS2 */
+  const char *kind;            /* letters, extension, euro, refused, circumflex, han */
+  size_t length;               /* septets of the text, or its units in UCS2 */
+  size_t units;
+  uint16_t text[256];
+  uint8_t coding;              /* to read: what the library wrote for the text */
+  uint32_t count;
+  size_t octets_len;
+  uint8_t octets[256];
+} one_case;
+
+typedef struct {
+  uint32_t refusal;
+  size_t position;
+  uint32_t count;
+  uint8_t coding;
+  size_t written;
+  uint8_t octets[512];
+  uint16_t units[512];
+} one_answer;
+
+typedef struct {
+  const char *name;
+  /* Loads the side. Answers 0, or why it cannot be had. */
+  const char *(*load)(void);
+  /* Brings the case into the side's own form, outside the measurement. Answers 0, or why it cannot be given. */
+  const char *(*prepare)(const one_case *given);
+  /* The measured call. */
+  call run;
+  /* What came of the call. A part that the side has no word for is left as it stands: it is the library's own. */
+  void (*answer)(one_answer *got);
+} side;
+
+extern const side peer_libosmocore, peer_gammu, peer_wireshark;
+#endif

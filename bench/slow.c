@@ -1,0 +1,72 @@
+/* A library that breaks every limit on purpose, for `bench/check --self-test`: it waits, a refusal waits longer, it takes
+   much stack, asks for storage, keeps state, and holds a table that nobody needs. Its answers are the plain loop's. */
+#include "plain.h"
+#include "wikuay.h"
+#include <stdlib.h>
+#include <string.h>
+
+static const uint8_t table[40000] = { 1 };
+static void *volatile kept;
+
+static void wait(unsigned turns) {
+  volatile uint8_t frame[1200];
+  for (unsigned i = 0; i < turns; i++) frame[i % sizeof frame] = table[i % sizeof table];
+  kept = malloc(frame[0]);
+  free(kept);
+}
+
+wikuay_answer wikuay_write_message(uint32_t service, wikuay_reading reading, const uint16_t *text, size_t text_len, uint8_t *out,
+                                   size_t out_len) {
+  plain_answer a = plain_write(service, reading.alphabet, text, text_len, out, out_len);
+  wikuay_answer answer;
+  memset(&answer, 0, sizeof answer);
+  answer.refusal = a.refusal;
+  answer.count = a.count;
+  answer.position = a.position;
+  answer.written = a.written;
+  answer.coding = a.coding;
+  wait(a.refusal != 0 ? 1500 : 400);
+  return answer;
+}
+
+wikuay_read_answer wikuay_read_message(uint32_t service, uint8_t coding, size_t count, const uint8_t *octets, size_t octets_len,
+                                       uint16_t *out, size_t out_len) {
+  /* The plain loop has no old page. */
+  plain_answer a = plain_read(service == WIKUAY_OLD_PAGE ? WIKUAY_BROADCAST : service, coding, count, octets, octets_len, out, out_len);
+  wikuay_read_answer answer;
+  memset(&answer, 0, sizeof answer);
+  answer.refusal = a.refusal;
+  answer.position = a.position;
+  answer.written = a.written;
+  wait(400);
+  return answer;
+}
+
+static wikuay_answer nothing(void) {
+  wikuay_answer answer;
+  memset(&answer, 0, sizeof answer);
+  return answer;
+}
+
+static wikuay_read_answer nothing_read(void) {
+  wikuay_read_answer answer;
+  memset(&answer, 0, sizeof answer);
+  return answer;
+}
+
+/* The other calls answer nothing: they are there to be linked. */
+wikuay_read_answer wikuay_read_coding(uint32_t service, uint8_t coding) { return (void)service, (void)coding, nothing_read(); }
+wikuay_answer wikuay_write_coding(uint32_t service, wikuay_reading reading) { return (void)service, (void)reading, nothing(); }
+wikuay_read_answer wikuay_holds_text(wikuay_reading reading) { return (void)reading, nothing_read(); }
+wikuay_answer wikuay_pack(uint32_t service, const uint8_t *septets, size_t septets_len, uint8_t *out, size_t out_len) {
+  return (void)service, (void)septets, (void)septets_len, (void)out, (void)out_len, nothing();
+}
+wikuay_answer wikuay_unpack(uint32_t service, const uint8_t *octets, size_t octets_len, size_t count, uint8_t *out, size_t out_len) {
+  return (void)service, (void)octets, (void)octets_len, (void)count, (void)out, (void)out_len, nothing();
+}
+wikuay_answer wikuay_text_to_septets(const uint16_t *text, size_t text_len, uint8_t *out, size_t out_len) {
+  return (void)text, (void)text_len, (void)out, (void)out_len, nothing();
+}
+wikuay_answer wikuay_septets_to_text(const uint8_t *septets, size_t septets_len, uint16_t *out, size_t out_len) {
+  return (void)septets, (void)septets_len, (void)out, (void)out_len, nothing();
+}
