@@ -49,7 +49,7 @@ static void ours_run(void) {
 
 static call ours_entry(void) { return given.writing ? (call)wikuay_write_message : (call)wikuay_read_message; }
 
-static void ours_answer(one_answer *got) {
+static void to_answer(one_answer *got, wikuay_answer wrote, wikuay_read_answer read) {
   got->refusal = given.writing ? wrote.refusal : read.refusal;
   got->position = given.writing ? wrote.position : read.position;
   got->written = given.writing ? wrote.written : read.written;
@@ -58,32 +58,23 @@ static void ours_answer(one_answer *got) {
   out_to_answer(got);
 }
 
+static void ours_answer(one_answer *got) { to_answer(got, wrote, read); }
+
 static const side ours = { "wikuay", nothing_to_load, ours_prepare, ours_run, ours_answer };
 
 /* ---- the plain C loop ---- */
 
-static plain_answer plainly;
-
-static const char *plain_prepare(const one_case *c) {
-  (void)c;
-  return NULL;
-}
+static wikuay_answer plain_wrote;
+static wikuay_read_answer plain_got;
 
 static void plain_run(void) {
-  if (given.writing) plainly = plain_write(given.service, given.alphabet, given.text, given.units, octets, ROOM_OCTETS);
-  else plainly = plain_read(given.service, given.coding, given.count, given.octets, given.octets_len, units, ROOM_UNITS);
+  if (given.writing) plain_wrote = plain_write(given.service, reading, given.text, given.units, octets, ROOM_OCTETS);
+  else plain_got = plain_read(given.service, given.coding, given.count, given.octets, given.octets_len, units, ROOM_UNITS);
 }
 
-static void plain_result(one_answer *got) {
-  got->refusal = plainly.refusal;
-  got->position = plainly.position;
-  got->written = plainly.written;
-  got->count = plainly.count;
-  got->coding = plainly.coding;
-  out_to_answer(got);
-}
+static void plain_result(one_answer *got) { to_answer(got, plain_wrote, plain_got); }
 
-static const side plain = { "plain", nothing_to_load, plain_prepare, plain_run, plain_result };
+static const side plain = { "plain", nothing_to_load, ours_prepare, plain_run, plain_result };
 
 /* ---- the floors: a copy of the message's octets, and for UCS2 the loop that swaps them ---- */
 
@@ -355,7 +346,30 @@ static int repeat(unsigned long times) {
   return 0;
 }
 
+/* ---- the plain loop's data coding octets are the library's, over every octet and every reading that an octet has ---- */
+
+static int same_reading(wikuay_reading a, wikuay_reading b) {
+  return a.alphabet == b.alphabet && a.compressed == b.compressed && a.message_class == b.message_class && a.language == b.language &&
+         a.deletion == b.deletion && a.prefix == b.prefix && a.reserved == b.reserved && a.notice == b.notice;
+}
+
+static int codings(void) {
+  int differ = 0;
+  for (uint32_t from = SMS; from <= USSD; from++)
+    for (unsigned octet = 0; octet < 256; octet++) {
+      wikuay_reading said = wikuay_read_coding(from, (uint8_t)octet).reading;
+      differ += !same_reading(said, plain_read_coding(from, (uint8_t)octet));
+      for (uint32_t to = SMS; to <= USSD; to++) {
+        wikuay_answer written = wikuay_write_coding(to, said);
+        differ += plain_write_coding(to, said) != (written.refusal == 0 ? written.coding : -1);
+      }
+    }
+  if (differ != 0) fprintf(stderr, "bench: the plain loop has %d other data coding octets\n", differ);
+  return differ != 0;
+}
+
 int main(int words_len, char **words) {
+  if (words_len == 2 && strcmp(words[1], "codings") == 0) return codings();
   if (words_len == 3 && strcmp(words[1], "repeat") == 0) return repeat(strtoul(words[2], NULL, 10));
   if (words_len < 4) {
     fprintf(stderr, "harness: give LENGTHS MEASURE SIDE..\n");

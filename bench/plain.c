@@ -1,5 +1,5 @@
 /* The baseline of the benchmark, see plain.h: a table from unit to code, a bit accumulator, one loop for each step.
-   It makes the same tests as the library and stores nothing in a refusal, so that both do the same work. */
+   It makes the same tests as the library, answers as much, and stores nothing in a refusal, so that both do the same work. */
 #include "plain.h"
 #include <string.h>
 
@@ -51,9 +51,113 @@ static const uint16_t extension_unit[128] = {
 static const uint8_t most_septets[3] = { 160, 93, 182 };
 static const uint8_t most_units[3] = { 70, 41, 80 };
 
-static plain_answer refused(uint32_t refusal, size_t position) {
-  plain_answer a = { refusal, 0, position, 0, 0 };
+static wikuay_answer refused(uint32_t refusal, size_t position) {
+  wikuay_answer a = { refusal, 0, position, 0, 0 };
   return a;
+}
+
+static wikuay_read_answer read_refused(uint32_t refusal) {
+  wikuay_read_answer a = { refusal, 0, 0, 0, WIKUAY_PLAIN };
+  return a;
+}
+
+/* The octet of a short message, by the bits of its groups. */
+static int short_coding(wikuay_reading r) {
+  if (r.language != WIKUAY_NO_LANGUAGE || r.prefix || r.message_class > WIKUAY_CLASS_3 || r.alphabet == WIKUAY_WAP) return -1;
+  if (r.notice == WIKUAY_NO_NOTICE)
+    return r.deletion << 6 | r.compressed << 5 | (r.message_class ? 0x10 | (r.message_class - 1) : 0) | r.alphabet << 2;
+  if (r.deletion || r.compressed || r.message_class) return -1;
+  int kind = r.notice & 0x0F, store = r.notice & WIKUAY_STORE;
+  if (r.alphabet == WIKUAY_7BIT) return (store ? 0xD0 : 0xC0) | kind;
+  if (r.alphabet == WIKUAY_UCS2 && store) return 0xE0 | kind;
+  return -1;
+}
+
+/* The smallest octet of a broadcast page or a USSD string. */
+static int page_coding(wikuay_reading r) {
+  if (r.deletion || r.notice != WIKUAY_NO_NOTICE) return -1;
+  int nothing_else = !r.compressed && r.message_class == WIKUAY_NO_CLASS;
+  if (r.language != WIKUAY_NO_LANGUAGE) {
+    if (!nothing_else || r.prefix || r.alphabet != WIKUAY_7BIT) return -1;
+    return r.language == WIKUAY_CZECH ? 0x20 : r.language;
+  }
+  if (r.prefix) {
+    if (!nothing_else) return -1;
+    return r.alphabet == WIKUAY_7BIT ? 0x10 : r.alphabet == WIKUAY_UCS2 ? 0x11 : -1;
+  }
+  if (r.alphabet == WIKUAY_WAP) return nothing_else ? 0xE0 : -1;
+  if (r.message_class >= WIKUAY_USER_DEFINED_1) {
+    if (r.compressed || r.alphabet == WIKUAY_UCS2) return -1;
+    return 0xF0 | r.alphabet << 2 | (r.message_class - WIKUAY_CLASS_3);
+  }
+  if (nothing_else && r.alphabet == WIKUAY_7BIT) return 0x0F;
+  return 0x40 | r.compressed << 5 | (r.message_class ? 0x10 | (r.message_class - 1) : 0) | r.alphabet << 2;
+}
+
+int plain_write_coding(uint32_t service, wikuay_reading r) {
+  if (service > 2) return -1;
+  if (r.alphabet > 3 || r.compressed > 1 || r.message_class > 6 || r.language > 16 || r.deletion > 1 || r.prefix > 1 || r.reserved > 1)
+    return -1;
+  /* A notice is a multiple of 16, an active one 8 more, and its kind. */
+  if (r.notice != WIKUAY_NO_NOTICE && (r.notice < 16 || r.notice >= 48 || (r.notice & 4) != 0)) return -1;
+  if (r.reserved) return -1;
+  return service == 0 ? short_coding(r) : page_coding(r);
+}
+
+static wikuay_reading reserved_reading(void) {
+  wikuay_reading r = WIKUAY_PLAIN;
+  r.reserved = 1;
+  return r;
+}
+
+wikuay_reading plain_read_coding(uint32_t service, uint8_t coding) {
+  wikuay_reading r = WIKUAY_PLAIN;
+  unsigned group = coding >> 4, low = coding & 0x0F;
+  if (service == 0 ? group < 8 : (group >= 4 && group < 8)) {
+    if ((low & 0x0C) == 0x0C) return reserved_reading();
+    r.alphabet = low >> 2;
+    r.compressed = group >> 1 & 1;
+    if (group & 1) r.message_class = (low & 3) + 1;
+    r.deletion = service == 0 && group >= 4;
+    return r;
+  }
+  if (group == 15) {
+    if (low & 8) return reserved_reading();
+    r.alphabet = low >> 2 & 1;
+    unsigned class = low & 3;
+    if (service == 0) r.message_class = class + 1;
+    else r.message_class = class == 0 ? WIKUAY_NO_CLASS : class == 3 ? WIKUAY_CLASS_3 : class + WIKUAY_CLASS_3;
+    return r;
+  }
+  if (service == 0) {
+    if (group < 12 || low & 4) return reserved_reading();
+    r.notice = (group == 12 ? WIKUAY_DISCARD : WIKUAY_STORE) | low;
+    if (group == 14) r.alphabet = WIKUAY_UCS2;
+    return r;
+  }
+  if (group == 0) {
+    r.language = low;
+    return r;
+  }
+  if (group == 1 && low < 2) {
+    r.prefix = 1;
+    if (low == 1) r.alphabet = WIKUAY_UCS2;
+    return r;
+  }
+  if (coding == 0x20) {
+    r.language = WIKUAY_CZECH;
+    return r;
+  }
+  if (group == 14) {
+    r.alphabet = WIKUAY_WAP;
+    return r;
+  }
+  return reserved_reading();
+}
+
+/* The refusal of a reading that holds no text, or 0. */
+static uint32_t no_text(wikuay_reading r) {
+  return r.compressed ? 1 : r.alphabet & 1 ? 2 : r.prefix ? 3 : 0;
 }
 
 static unsigned find(uint16_t unit) {
@@ -85,7 +189,7 @@ void plain_swap_in(const uint8_t *octets, size_t units, uint16_t *out) {
   for (size_t i = 0; i < units; i++) out[i] = (uint16_t)(octets[2 * i] << 8 | octets[2 * i + 1]);
 }
 
-static plain_answer write_ucs2(uint32_t service, const uint16_t *text, size_t text_len, uint8_t *out, size_t out_len) {
+static wikuay_answer write_ucs2(uint32_t service, uint8_t coding, const uint16_t *text, size_t text_len, uint8_t *out, size_t out_len) {
   if (text_len > most_units[service]) return refused(5, 0);
   size_t octets = service == 1 ? 82 : 2 * text_len;
   if (octets > out_len) return refused(7, 0);
@@ -94,15 +198,17 @@ static plain_answer write_ucs2(uint32_t service, const uint16_t *text, size_t te
     out[i] = 0;
     out[i + 1] = CR;
   }
-  plain_answer a = { 0, service == 0 ? (uint32_t)octets : 0, 0, octets, service == 0 ? 0x08 : 0x48 };
+  wikuay_answer a = { 0, service == 0 ? (uint32_t)octets : 0, 0, octets, coding };
   return a;
 }
 
-plain_answer plain_write(uint32_t service, uint8_t alphabet, const uint16_t *text, size_t text_len,
-                         uint8_t *out, size_t out_len) {
-  if (service > 2) return refused(8, 0);
-  if (alphabet == 2) return write_ucs2(service, text, text_len, out, out_len);
-  if (alphabet != 0) return refused(2, 0);
+wikuay_answer plain_write(uint32_t service, wikuay_reading reading, const uint16_t *text, size_t text_len, uint8_t *out,
+                          size_t out_len) {
+  int coding = plain_write_coding(service, reading);
+  if (coding < 0) return refused(8, 0);
+  uint32_t refusal = no_text(reading);
+  if (refusal != 0) return refused(refusal, 0);
+  if (reading.alphabet == WIKUAY_UCS2) return write_ucs2(service, (uint8_t)coding, text, text_len, out, out_len);
 
   /* A unit takes one septet or two, so a text of at most `limit` units always has room here. */
   uint8_t septets[2 * 182 + 1];
@@ -139,52 +245,38 @@ plain_answer plain_write(uint32_t service, uint8_t alphabet, const uint16_t *tex
     }
   }
   if (held > 0) out[at] = (uint8_t)bits;
-  plain_answer a = { 0, service == 0 ? (uint32_t)count : 0, 0, octets, service == 0 ? 0x00 : 0x0F };
+  wikuay_answer a = { 0, service == 0 ? (uint32_t)count : 0, 0, octets, (uint8_t)coding };
   return a;
 }
 
-/* 0 the coding holds 7-bit text, 16 it holds UCS2, else the refusal. */
-static uint32_t holds(uint32_t service, uint8_t coding) {
-  unsigned group = coding >> 4, low = coding & 0x0F;
-  if (service == 0 ? group < 8 : (group >= 4 && group < 8)) {
-    if ((low & 0x0C) == 0x0C) return 0;
-    if (group & 2) return 1;
-    return (low & 0x0C) == 0x04 ? 2 : (low & 0x0C) == 0x08 ? 16 : 0;
-  }
-  if (service == 0 && group == 14) return low & 4 ? 0 : 16;
-  if (service != 0 && group == 1) return low < 2 ? 3 : 0;
-  if (service != 0 && group == 14) return 2;
-  if (group == 15) return low & 8 ? 0 : low & 4 ? 2 : 0;
-  return 0;
-}
-
-static plain_answer read_ucs2(uint32_t service, size_t count, const uint8_t *octets, size_t octets_len,
-                              uint16_t *out, size_t out_len) {
-  if (octets_len % 2 != 0 || (service == 1 ? octets_len != 82 : octets_len > 2u * most_units[service])) return refused(4, 0);
-  if (count != (service == 0 ? octets_len : 0)) return refused(4, 0);
+static wikuay_read_answer read_ucs2(uint32_t service, wikuay_reading reading, size_t count, const uint8_t *octets,
+                                    size_t octets_len, uint16_t *out, size_t out_len) {
+  if (octets_len % 2 != 0 || (service == 1 ? octets_len != 82 : octets_len > 2u * most_units[service])) return read_refused(4);
+  if (count != (service == 0 ? octets_len : 0)) return read_refused(4);
   size_t units = octets_len / 2;
   if (service == 1) {
     while (units > 0 && octets[2 * units - 2] == 0 && octets[2 * units - 1] == CR) units--;
   }
-  if (units > out_len) return refused(7, 0);
+  if (units > out_len) return read_refused(7);
   plain_swap_in(octets, units, out);
-  plain_answer a = { 0, 0, 0, units, 0 };
+  wikuay_read_answer a = { 0, 0, units, 0, reading };
   return a;
 }
 
-plain_answer plain_read(uint32_t service, uint8_t coding, size_t count, const uint8_t *octets, size_t octets_len,
-                        uint16_t *out, size_t out_len) {
-  if (service > 2) return refused(8, 0);
-  uint32_t held_text = holds(service, coding);
-  if (held_text == 16) return read_ucs2(service, count, octets, octets_len, out, out_len);
-  if (held_text != 0) return refused(held_text, 0);
+wikuay_read_answer plain_read(uint32_t service, uint8_t coding, size_t count, const uint8_t *octets, size_t octets_len,
+                              uint16_t *out, size_t out_len) {
+  if (service > 2) return read_refused(8);
+  wikuay_reading reading = plain_read_coding(service, coding);
+  uint32_t refusal = no_text(reading);
+  if (refusal != 0) return read_refused(refusal);
+  if (reading.alphabet == WIKUAY_UCS2) return read_ucs2(service, reading, count, octets, octets_len, out, out_len);
 
   size_t septets_len;
   if (service == 0) {
-    if (count > 160 || octets_len != (7 * count + 7) / 8) return refused(4, 0);
+    if (count > 160 || octets_len != (7 * count + 7) / 8) return read_refused(4);
     septets_len = count;
   } else {
-    if (count != 0 || (service == 1 ? octets_len != 82 : octets_len > 160)) return refused(4, 0);
+    if (count != 0 || (service == 1 ? octets_len != 82 : octets_len > 160)) return read_refused(4);
     septets_len = 8 * octets_len / 7;
   }
 
@@ -218,8 +310,8 @@ plain_answer plain_read(uint32_t service, uint8_t coding, size_t count, const ui
     }
     units[used++] = unit;
   }
-  if (used > out_len) return refused(7, 0);
+  if (used > out_len) return read_refused(7);
   memcpy(out, units, used * sizeof units[0]);
-  plain_answer a = { 0, 0, 0, used, 0 };
+  wikuay_read_answer a = { 0, 0, used, 0, reading };
   return a;
 }

@@ -17,27 +17,16 @@ static void wait(unsigned turns) {
 
 wikuay_answer wikuay_write_message(uint32_t service, wikuay_reading reading, const uint16_t *text, size_t text_len, uint8_t *out,
                                    size_t out_len) {
-  plain_answer a = plain_write(service, reading.alphabet, text, text_len, out, out_len);
-  wikuay_answer answer;
-  memset(&answer, 0, sizeof answer);
-  answer.refusal = a.refusal;
-  answer.count = a.count;
-  answer.position = a.position;
-  answer.written = a.written;
-  answer.coding = a.coding;
-  wait(a.refusal != 0 ? 1500 : 400);
+  wikuay_answer answer = plain_write(service, reading, text, text_len, out, out_len);
+  wait(answer.refusal != 0 ? 1500 : 400);
   return answer;
 }
 
 wikuay_read_answer wikuay_read_message(uint32_t service, uint8_t coding, size_t count, const uint8_t *octets, size_t octets_len,
                                        uint16_t *out, size_t out_len) {
   /* The plain loop has no old page. */
-  plain_answer a = plain_read(service == WIKUAY_OLD_PAGE ? WIKUAY_BROADCAST : service, coding, count, octets, octets_len, out, out_len);
-  wikuay_read_answer answer;
-  memset(&answer, 0, sizeof answer);
-  answer.refusal = a.refusal;
-  answer.position = a.position;
-  answer.written = a.written;
+  wikuay_read_answer answer =
+      plain_read(service == WIKUAY_OLD_PAGE ? WIKUAY_BROADCAST : service, coding, count, octets, octets_len, out, out_len);
   wait(400);
   return answer;
 }
