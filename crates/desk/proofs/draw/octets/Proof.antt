@@ -1,0 +1,46 @@
+-- `octets` is safe and ends: the place is at most the length, and what is left of it falls. Assumes nothing.
+use Prim.Native.Nat.{_≤_, _-_}
+use borrow.Author.Needs.{needs}
+use Rattle.desk.proofs.draw.octets.Statement.{statement}
+use Rattle.desk.proofs.draw.octets.Tie as tie
+
+abbrev Inv-loop : tie.InvT-loop
+Inv-loop octets j₀ j-end j = j ≤ j-end
+
+abbrev μ-loop : tie.MeasureT-loop
+μ-loop octets j₀ j-end j = j-end - j
+
+loop-holds : tie.Need-loop-holds Inv-loop μ-loop
+loop-holds c = search needs
+
+shared-slice-read-octet-line : tie.Need-shared-slice-read-octet-line Inv-loop μ-loop
+shared-slice-read-octet-line c = search needs
+
+octet-line-requires : tie.Need-octet-line-requires Inv-loop μ-loop
+octet-line-requires c κs = search needs
+
+add-j : tie.Need-add-j Inv-loop μ-loop
+add-j c = search needs
+
+loop-less : tie.Need-loop-less Inv-loop μ-loop
+loop-less c = search needs
+
+loop-again : tie.Need-loop-again Inv-loop μ-loop
+loop-again c = search needs
+
+returns : tie.Need-returns Inv-loop μ-loop
+returns c = search needs
+
+pub octets-spec : {M : Type 1} → statement M
+octets-spec =
+    tie.close
+    (tie.spec
+    Inv-loop
+    μ-loop
+    loop-holds
+    shared-slice-read-octet-line
+    octet-line-requires
+    add-j
+    loop-less
+    loop-again
+    returns)

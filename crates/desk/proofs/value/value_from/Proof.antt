@@ -1,0 +1,46 @@
+-- `value_from` is safe and ends: the place is at most the length, and what is left of it falls. Assumes nothing.
+use Prim.Native.Nat.{_≤_, _-_}
+use borrow.Author.Needs.{needs}
+use Rattle.desk.proofs.value.value_from.Statement.{statement}
+use Rattle.desk.proofs.value.value_from.Tie as tie
+
+abbrev Inv-loop : tie.InvT-loop
+Inv-loop word from₀ i₀ i-end from i = i ≤ i-end
+
+abbrev μ-loop : tie.MeasureT-loop
+μ-loop word from₀ i₀ i-end from i = i-end - i
+
+loop-holds : tie.Need-loop-holds Inv-loop μ-loop
+loop-holds c = search needs
+
+shared-slice-read-if1 : tie.Need-shared-slice-read-if1 Inv-loop μ-loop
+shared-slice-read-if1 c = search needs
+
+add-from : tie.Need-add-from Inv-loop μ-loop
+add-from c = search needs
+
+add-i : tie.Need-add-i Inv-loop μ-loop
+add-i c = search needs
+
+loop-less : tie.Need-loop-less Inv-loop μ-loop
+loop-less c = search needs
+
+loop-again : tie.Need-loop-again Inv-loop μ-loop
+loop-again c = search needs
+
+returns : tie.Need-returns Inv-loop μ-loop
+returns c = search needs
+
+pub value-from-spec : {M : Type 1} → statement M
+value-from-spec =
+    tie.close
+    (tie.spec
+    Inv-loop
+    μ-loop
+    loop-holds
+    shared-slice-read-if1
+    add-from
+    add-i
+    loop-less
+    loop-again
+    returns)
