@@ -1,31 +1,37 @@
 // A message drawn: its octets, where each septet or unit lies in them, and what it means.
+use crate::job;
+use crate::job::Job;
 use crate::line;
 use crate::refused;
 use crate::say;
 use words::Filled;
-use words::Service;
 
 const ESCAPE: u8 = 0x1b;
 
-fn octet_line(j: usize, octet: u8) {
-    say::say(b"octet ");
-    say::number(j);
+// The number, the octet and its eight bits, or the septet and its seven.
+fn piece(n: usize, value: u8, bits: usize) {
+    say::number(n);
     say::say(b" ");
-    say::octet(octet);
+    say::octet(value);
     say::say(b" ");
-    say::bits(octet, 8);
-    say::say(b"\n");
+    if bits == 7 {
+        say::bits(value % 128 * 2, 7);
+    } else {
+        say::bits(value, 8);
+    }
 }
 
-pub(crate) fn octets(octets: &[u8]) {
-    for j in 0..octets.len() {
-        octet_line(j, octets[j]);
+pub(crate) fn octets(list: &[u8]) {
+    for j in 0..list.len() {
+        say::say(b"octet ");
+        piece(j, list[j], 8);
+        say::say(b"\n");
     }
 }
 
 // The bits of octet j from high down to low.
-fn bit_places(j: usize, high: usize, low: usize) {
-    say::say(b"octet ");
+fn place(j: usize, high: usize, low: usize) {
+    say::say(b" octet ");
     say::number(j);
     if low < high {
         say::say(b" bits ");
@@ -37,31 +43,21 @@ fn bit_places(j: usize, high: usize, low: usize) {
     say::number(low);
 }
 
-// Where septet k lies: bits 7k to 7k + 6 of the stream, eight to an octet, lowest first.
-fn places(k: usize) {
+// A septet and where it lies: bits 7k to 7k + 6 of the stream, eight to an octet, lowest first.
+fn septet(k: usize, value: u8) {
+    say::say(b"septet ");
+    piece(k, value, 7);
     if k < 200 {
         let j = 7 * k / 8;
         let low = 7 * k % 8;
         if low < 2 {
-            bit_places(j, low + 6, low);
+            place(j, low + 6, low);
         } else {
-            bit_places(j, 7, low);
-            say::say(b", ");
-            bit_places(j + 1, low - 2, 0);
+            place(j, 7, low);
+            say::say(b",");
+            place(j + 1, low - 2, 0);
         }
     }
-}
-
-// The number of a septet, its bits and its places.
-fn septet_line(k: usize, septet: u8) {
-    say::say(b"septet ");
-    say::number(k);
-    say::say(b" ");
-    say::octet(septet);
-    say::say(b" ");
-    say::bits(septet % 128 * 2, 7);
-    say::say(b" ");
-    places(k);
     say::say(b": ");
 }
 
@@ -76,41 +72,44 @@ fn unit_of(septets: &[u8], old: bool) -> u16 {
     unit[0]
 }
 
-fn letter_line(unit: u16) {
-    if unit == 32 {
-        say::say(b"space");
-    } else {
-        say::shown(unit);
+fn letter(unit: u16) {
+    match unit {
+        10 => say::say(b"LF\n"),
+        13 => say::say(b"CR\n"),
+        32 => say::say(b"space\n"),
+        _ => {
+            say::unit(unit, say::SHOWN);
+            say::say(b"\n");
+        }
     }
-    say::say(b"\n");
 }
 
 // What a septet behind an escape makes with it.
-fn pair_line(septet: u8) {
+fn pair(septet: u8) {
     if septet == ESCAPE {
         say::say(b"a second escape, with the first a space\n");
         return;
     }
-    let pair = [ESCAPE, septet];
+    let both = [ESCAPE, septet];
     let alone = [septet];
-    let unit = unit_of(&pair, false);
+    let unit = unit_of(&both, false);
     if unit == unit_of(&alone, false) {
         say::say(b"not listed behind an escape, with it ");
     } else {
         say::say(b"with the escape ");
     }
-    letter_line(unit);
+    letter(unit);
 }
 
 // What a septet means; answers whether it is an escape that waits for the next one.
 fn meaning(septet: u8, waiting: bool, last: bool, old: bool) -> bool {
+    let alone = [septet];
     if waiting {
-        pair_line(septet);
+        pair(septet);
         return false;
     }
     if old || septet != ESCAPE {
-        let alone = [septet];
-        letter_line(unit_of(&alone, old));
+        letter(unit_of(&alone, old));
         return false;
     }
     if last {
@@ -124,19 +123,19 @@ fn meaning(septet: u8, waiting: bool, last: bool, old: bool) -> bool {
 fn each_septet(septets: &[u8], old: bool) {
     let mut waiting = false;
     for k in 0..septets.len() {
-        septet_line(k, septets[k]);
+        septet(k, septets[k]);
         waiting = meaning(septets[k], waiting, septets.len() - k == 1, old);
     }
 }
 
 // The septets from kept on, which are filling.
-fn dropped(service: Service, kept: usize, total: usize) {
+fn dropped(service: usize, kept: usize, total: usize) {
+    let filler = if service == job::OLD { 0 } else { 13 };
     if total <= kept {
         return;
     }
-    let filler = if is_old(service) { 0 } else { 13 };
     if total - kept == 1 {
-        septet_line(kept, filler);
+        septet(kept, filler);
     } else {
         say::say(b"septets ");
         say::number(kept);
@@ -146,21 +145,11 @@ fn dropped(service: Service, kept: usize, total: usize) {
         say::octet(filler);
         say::say(b": ");
     }
-    match service {
-        Service::ShortMessage => say::say(b"dropped\n"),
-        Service::Broadcast => say::say(b"closing CR, page filling, dropped\n"),
-        Service::Ussd => say::say(b"the CR that was added to fill the last octet, dropped\n"),
-        Service::OldPage => say::say(b"closing zero, page filling, dropped\n"),
-    }
-}
-
-fn is_old(service: Service) -> bool {
-    match service {
-        Service::ShortMessage => false,
-        Service::Broadcast => false,
-        Service::Ussd => false,
-        Service::OldPage => true,
-    }
+    say::part(
+        b"|closing CR, page filling|the CR that was added to fill the last octet|closing zero, page filling|",
+        service,
+    );
+    say::say(b", dropped\n");
 }
 
 // The bits above the last of n septets.
@@ -169,8 +158,8 @@ fn spare(octets: &[u8], n: usize) {
         let j = 7 * n / 8;
         let low = 7 * n % 8;
         if j < octets.len() {
-            say::say(b"spare ");
-            bit_places(j, 7, low);
+            say::say(b"spare");
+            place(j, 7, low);
             say::say(b" ");
             say::bits(octets[j], 8 - low);
             say::say(b"\n");
@@ -180,57 +169,51 @@ fn spare(octets: &[u8], n: usize) {
     say::say(b"no spare bits\n");
 }
 
-// How many septets the octets have, filling included.
-fn septets_held(service: Service, octets: usize, count: usize) -> usize {
-    match service {
-        Service::ShortMessage => count,
-        Service::Broadcast => 93,
-        Service::Ussd => { if octets < 200 { 8 * octets / 7 } else { 0 } }
-        Service::OldPage => 93,
-    }
-}
-
-pub(crate) fn septets(service: Service, octets: &[u8], count: usize) {
+pub(crate) fn septets(job: Job, octets: &[u8]) {
     let mut septets = [0u8; 182];
-    let unpacked = packing::unpack(service, octets, count, &mut septets);
+    let service = job.service;
+    let unpacked = packing::unpack(job::service_of(service), octets, job.count, &mut septets);
     match unpacked {
         Filled::Done(n) => {
             let kept = line::within(n, &septets);
-            each_septet(&septets[..kept], is_old(service));
-            let total = septets_held(service, octets.len(), count);
+            let total = if service == job::SMS {
+                kept
+            } else if service != job::USSD {
+                93
+            } else if octets.len() < 200 {
+                8 * octets.len() / 7
+            } else {
+                0
+            };
+            each_septet(&septets[..kept], service == job::OLD);
             dropped(service, kept, total);
             spare(octets, total);
         }
-        Filled::Refused(refusal) => refused::line(refusal),
+        Filled::Refused(refusal) => refused::told(refusal),
     }
 }
 
-fn unit_line(i: usize, unit: u16) {
-    say::say(b"unit ");
-    say::number(i);
-    say::say(b" ");
-    say::spelled(unit);
-    if i < 200 {
-        say::say(b" octets ");
-        say::number(2 * i);
-        say::say(b", ");
-        say::number(2 * i + 1);
+// Units, and those that fill the octets of a page.
+pub(crate) fn units(list: &[u16], octets: usize) {
+    for i in 0..list.len() {
+        say::say(b"unit ");
+        say::number(i);
+        say::say(b" ");
+        say::unit(list[i], say::SPELLED);
+        if i < 200 {
+            say::say(b" octets ");
+            say::number(2 * i);
+            say::say(b", ");
+            say::number(2 * i + 1);
+        }
+        say::say(b": ");
+        letter(list[i]);
     }
-    say::say(b": ");
-}
-
-pub(crate) fn units(octets: usize, units: &[u16]) {
-    for i in 0..units.len() {
-        unit_line(i, units[i]);
-        letter_line(units[i]);
-    }
-    let total = octets / 2;
-    let kept = units.len();
-    if kept < total {
+    if list.len() < octets / 2 {
         say::say(b"units ");
-        say::number(kept);
+        say::number(list.len());
         say::say(b" to ");
-        say::number(total - 1);
+        say::number(octets / 2 - 1);
         say::say(b" 000D: closing CR, page filling, dropped\n");
     }
 }

@@ -2,8 +2,6 @@
 use crate::refused;
 use crate::say;
 use coding::Held;
-use coding::Kind;
-use coding::Notice;
 use coding::OctetRead;
 use coding::OctetWritten;
 use coding::Reading;
@@ -17,37 +15,11 @@ fn mark(is_set: bool) {
     }
 }
 
-fn waits(active: bool, kind: Kind) {
-    if active {
-        say::say(b", active, ");
-    } else {
-        say::say(b", not active, ");
-    }
-    say::part(
-        b"voicemail|fax|electronic mail|other|",
-        kind.number() as usize,
-    );
-}
-
-fn notice(notice: Notice) {
-    match notice {
-        Notice::Nothing => say::say(b"none"),
-        Notice::Discard { active, kind } => {
-            say::say(b"discard");
-            waits(active, kind);
-        }
-        Notice::Store { active, kind } => {
-            say::say(b"store");
-            waits(active, kind);
-        }
-    }
-}
-
 fn fields(reading: Reading) {
     let alphabet = reading.alphabet;
     let class = reading.class;
     let language = reading.language;
-    let waiting = reading.notice;
+    let notice = reading.notice;
     say::say(b"alphabet ");
     say::part(b"7-bit|8-bit data|UCS2|WAP|", alphabet.number() as usize);
     say::say(b"\ncompressed ");
@@ -59,38 +31,48 @@ fn fields(reading: Reading) {
     );
     say::say(b"\nlanguage ");
     say::part(
-        b"German|English|Italian|French|Spanish|Dutch|Swedish|Danish|Portuguese|Finnish|Norwegian|Greek|Turkish|Hungarian|Polish|unspecified|Czech|",
+        b"German|English|Italian|French|Spanish|Dutch|Swedish|Danish|Portuguese|
+Finnish|Norwegian|Greek|Turkish|Hungarian|Polish|unspecified|Czech|",
         language.number() as usize,
     );
     say::say(b"\ndeletion ");
     mark(reading.deletion);
     say::say(b"notice ");
-    notice(waiting);
+    waiting(notice.number() as usize);
     say::say(b"\nprefix ");
     mark(reading.prefix);
     say::say(b"reserved ");
     mark(reading.reserved);
 }
 
-fn held(reading: Reading) {
-    say::say(b"text ");
-    let held = reading.holds();
-    match held {
-        Held::Septets => say::say(b"7-bit\n"),
-        Held::Units => say::say(b"UCS2\n"),
-        Held::Refused(refusal) => refused::line(refusal),
+// A waiting notice by its number: 0 is none, bit 5 store, bit 3 active, bits 1..0 the kind.
+fn waiting(n: usize) {
+    if n == 0 {
+        say::say(b"none");
+    } else {
+        say::part(b"discard|store|", n / 32);
+        say::part(b", not active|, active|", n / 8 % 2);
+        say::part(b", voicemail|, fax|, electronic mail|, other|", n % 4);
     }
 }
 
-fn written(service: Service, reading: Reading) {
-    say::say(b"written ");
+// Whether it holds text, and the octet that it is written as.
+fn uses(service: Service, reading: Reading) {
+    let held = reading.holds();
     let written = reading.write(service);
+    say::say(b"text ");
+    match held {
+        Held::Septets => say::say(b"7-bit\n"),
+        Held::Units => say::say(b"UCS2\n"),
+        Held::Refused(refusal) => refused::told(refusal),
+    }
+    say::say(b"written ");
     match written {
         OctetWritten::Done(octet) => {
             say::octet(octet);
             say::say(b"\n");
         }
-        OctetWritten::Refused(refusal) => refused::line(refusal),
+        OctetWritten::Refused(refusal) => refused::told(refusal),
     }
 }
 
@@ -99,12 +81,11 @@ pub(crate) fn tell(service: Service, octet: u8) {
     match read {
         OctetRead::Done(reading) => {
             fields(reading);
-            held(reading);
-            written(service, reading);
+            uses(service, reading);
         }
         OctetRead::Refused(refusal) => {
-            refused::line(refusal);
-            refused::coding(octet);
+            let one = [octet];
+            refused::octets(refusal, b"coding ", &one);
         }
     }
 }

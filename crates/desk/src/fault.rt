@@ -1,7 +1,8 @@
-// What can be wrong with a command line, and the line that says so.
+// What can be wrong with a command line, and the lines that say so.
 use crate::help;
 use crate::say;
 
+// The faults, from 1; 0 is none.
 pub(crate) const LONG: usize = 1;
 
 pub(crate) const OPTION: usize = 2;
@@ -36,57 +37,40 @@ pub(crate) const NUMBER: usize = 16;
 
 pub(crate) const COUNT: usize = 17;
 
-// The plain words of a fault, by its number.
-fn words(fault: usize) {
+// Says what is wrong and shows the argument, or the option of that slot, where there is one; then the help on the command.
+pub(crate) fn complain(fault: usize, at: usize, verb: usize) {
+    say::say(b"error: ");
     say::part(
-        b"|an argument is longer than 4096 octets|there is no such option|the option has no value|the option or its value is given twice|there is a word too many; a text of several words stands in quotes|",
+        b"|
+an argument is longer than 4096 octets|
+there is no such option|
+the option has no value|
+the option or its value is given twice|
+there is a word too many; a text of several words stands in quotes|
+no command is given|
+there is no such command|
+the service is missing|
+there is no such service; it is sms, cbs, ussd or old|
+the text or the octets are missing|
+the command does not take the option|
+octets and septets are typed as two hexadecimal digits each|
+units are typed as four hexadecimal digits each|
+only plain ASCII can be typed; other characters are typed as units for now, as in --units 20AC|
+a coding octet is two hexadecimal digits|
+a number is typed in decimal, without a zero in front|
+a short message is read with its length count; give --count|
+",
         fault,
     );
-    if 5 < fault {
-        say::part(
-            b"no command is given|there is no such command|the service is missing|there is no such service; it is sms, cbs, ussd or old|the text or the octets are missing|the command does not take the option|",
-            fault - 6,
-        );
-    }
-    if 11 < fault {
-        say::part(
-            b"octets and septets are typed as two hexadecimal digits each|units are typed as four hexadecimal digits each|only plain ASCII can be typed; other characters are typed as units for now, as in --units 20AC|a coding octet is two hexadecimal digits|a number is typed in decimal, without a zero in front|a short message is read with its length count; give --count|",
-            fault - 12,
-        );
-    }
-}
-
-// What is wrong, with the argument or the option's slot that shows it, or 0.
-pub(crate) struct Wrong {
-    pub fault: usize,
-    pub at: usize,
-}
-
-pub(crate) fn found(fault: usize, at: usize) -> Wrong {
-    Wrong {
-        fault: fault,
-        at: at,
-    }
-}
-
-// Shows what is wrong: the name of an option by its slot, or an argument.
-fn show(fault: usize, at: usize) {
-    say::say(b": ");
-    if 8 <= at && (fault == TWICE || fault == STRANGE) {
-        say::part(b"--coding|--count|--units|--room|", at - 8);
-    } else {
-        let mut word = io::buffer();
-        let n = os::arg(at, &mut word);
-        say::shown_word(&word[..n]);
-    }
-}
-
-// Says what is wrong, then the help on the command.
-pub(crate) fn complain(wrong: Wrong, verb: usize) {
-    say::say(b"error: ");
-    words(wrong.fault);
-    if 0 < wrong.at {
-        show(wrong.fault, wrong.at);
+    if 0 < at {
+        say::say(b": ");
+        if 8 <= at && (fault == TWICE || fault == STRANGE) {
+            say::part(b"--coding|--count|--units|--room|", at - 8);
+        } else {
+            let mut word = io::buffer();
+            let n = os::arg(at, &mut word);
+            say::octets(&word[..n], say::SHOWN);
+        }
     }
     say::say(b"\n");
     help::help(verb);

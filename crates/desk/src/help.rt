@@ -1,75 +1,69 @@
-// The help texts, one for each command.
+// The help texts: one for each command, and one for all.
 use crate::say;
 
-// The commands, in the order of their numbers; the number after the last means none of them.
+// The commands in the order of their numbers, and how many there are.
+pub(crate) const WRITE: usize = 0;
+
+pub(crate) const READ: usize = 1;
+
+pub(crate) const CODING: usize = 2;
+
+pub(crate) const EXPLAIN: usize = 3;
+
+pub(crate) const PACK: usize = 4;
+
+pub(crate) const UNPACK: usize = 5;
+
+pub(crate) const HELP: usize = 6;
+
 pub(crate) const VERBS: usize = 7;
 
-fn on_writing(verb: usize) {
-    if verb == 0 {
-        say::say(
+pub(crate) fn help(verb: usize) {
+    match verb {
+        WRITE => say::say(
             b"usage: wikuay write SERVICE TEXT [--coding OCTET] [--room N]
        wikuay write SERVICE --units UNITS [--coding OCTET] [--room N]
 Writes a text as a message: its octets, its length count and its data coding octet.
   TEXT             plain ASCII, typed as it is
   --units UNITS    the text as UCS2 units instead, four hexadecimal digits each
-  --coding OCTET   write under what this coding octet says: UCS2, a class, a language, a notice
+  --coding OCTET   write under what this coding octet says: UCS2, a class, a language, a waiting notice
   --room N         lend a buffer of N octets only
 ",
-        );
-    } else {
-        say::say(
-            b"usage: wikuay pack SERVICE SEPTETS [--room N]
-Packs septets into octets, filling and added CR included: the octets and the length count.
-  SEPTETS          two hexadecimal digits each, 00 to 7F
-  --room N         lend a buffer of N octets only
-",
-        );
-    }
-}
-
-fn on_reading(verb: usize) {
-    if verb == 1 {
-        say::say(
-            b"usage: wikuay read SERVICE OCTETS [--coding OCTET] [--count N] [--room N]
+        ),
+        READ => say::say(
+            b"usage: wikuay read SERVICE OCTETS [--coding OCTET] [--count N]
        wikuay read SERVICE CODING COUNT OCTETS
-Reads the octets of a message: the units of its text and the text.
+Reads the octets of a message: the units of its text in hexadecimal, and the text.
+  --coding OCTET   the data coding octet; if not given, 00 for sms and old, 0F for cbs and ussd
+  --count N        the length count that travels with a short message: septets, or octets for UCS2
 ",
-        );
-    } else if verb == 3 {
-        say::say(
+        ),
+        CODING => say::say(
+            b"usage: wikuay coding SERVICE OCTET
+Says what a data coding octet means, whether such a message holds text, and as which octet it is written.
+",
+        ),
+        EXPLAIN => say::say(
             b"usage: wikuay explain SERVICE OCTETS [--coding OCTET] [--count N]
        wikuay explain SERVICE CODING COUNT OCTETS
-Draws a message: its octets, where each septet or unit lies in them, and what it means.
+Draws a message: its octets, where each septet or unit lies in them, what it means, and the text.
+  --coding OCTET   the data coding octet; if not given, 00 for sms and old, 0F for cbs and ussd
+  --count N        the length count that travels with a short message: septets, or octets for UCS2
 ",
-        );
-    } else {
-        say::say(
-            b"usage: wikuay unpack SERVICE OCTETS [--count N] [--room N]
+        ),
+        PACK => say::say(
+            b"usage: wikuay pack SERVICE SEPTETS
+Packs septets, 00 to 7F, into octets, with the filling and the CR that the service adds.
+",
+        ),
+        UNPACK => say::say(
+            b"usage: wikuay unpack SERVICE OCTETS [--count N]
 Unpacks octets into septets, with filling dropped.
+  --count N        the length count that travels with a short message
 ",
-        );
-    }
-    if verb < 4 {
-        say::say(
-            b"  --coding OCTET   the data coding octet; 00 for sms and old, 0F for cbs and ussd unless given
-",
-        );
-    }
-    say::say(
-        b"  --count N        the length count that travels with a short message; sms needs it, the others have none
-",
-    );
-    if verb != 3 {
-        say::say(
-            b"  --room N         lend a buffer of N elements only
-",
-        );
-    }
-}
-
-fn on_all() {
-    say::say(
-        b"usage: wikuay write SERVICE TEXT        a typed text into octets
+        ),
+        _ => say::say(
+            b"usage: wikuay write SERVICE TEXT        a typed text into octets
        wikuay read SERVICE OCTETS       octets into text
        wikuay coding SERVICE OCTET      what a data coding octet says
        wikuay explain SERVICE OCTETS    a message drawn, septet by septet
@@ -81,22 +75,6 @@ Octets and septets are typed as two hexadecimal digits each, units as four.
 An option stands anywhere, as --count 5 or as --count=5; behind -- everything is a word.
 The exit status is 0 where it is answered, 1 where it is refused, 2 where the usage is wrong.
 ",
-    );
-}
-
-pub(crate) fn help(verb: usize) {
-    match verb {
-        0 => on_writing(verb),
-        4 => on_writing(verb),
-        1 => on_reading(verb),
-        3 => on_reading(verb),
-        5 => on_reading(verb),
-        2 => say::say(
-            b"usage: wikuay coding SERVICE OCTET
-Says what a data coding octet means under a service, whether a message with it holds text, and as which octet it is written.
-  OCTET            two hexadecimal digits
-",
         ),
-        _ => on_all(),
     }
 }

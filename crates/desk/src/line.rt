@@ -14,7 +14,7 @@ pub(crate) const UNITS: usize = 10;
 pub(crate) const ROOM: usize = 11;
 
 // How far the arguments are sorted: the words so far, the slot of an option that waits for its value, whether `--` ended the
-// options, and the first fault with its argument.
+// options, the first fault and the argument to show with it.
 pub(crate) struct Sorted {
     pub words: usize,
     pub waiting: usize,
@@ -23,8 +23,8 @@ pub(crate) struct Sorted {
     pub at: usize,
 }
 
-// What an argument is: a word, `--`, an option not known, one that is too long, 4 more than the number of an option whose value comes next, or 8 more
-// than that of one whose value is behind its `=`.
+// What an argument is: a word, `--`, an option not known, one that is too long, 4 more than the number of an option whose value
+// comes next, or 8 more than that of one whose value is behind its `=`.
 const WORD: usize = 0;
 
 const ENDS: usize = 1;
@@ -47,7 +47,7 @@ pub(crate) fn within_units(n: usize, list: &[u16]) -> usize
 }
 
 // The place of the `=` that closes an option's name, or the length.
-fn name_length(word: &[u8]) -> usize {
+pub(crate) fn name_length(word: &[u8]) -> usize {
     for i in 0..word.len() {
         if word[i] == b'=' {
             return i;
@@ -77,65 +77,66 @@ fn kind_of(word: &[u8]) -> usize {
     }
 }
 
+// The argument of a slot, or 0.
+pub(crate) fn slot(slots: &[usize], i: usize) -> usize {
+    if i < slots.len() { slots[i] } else { 0 }
+}
+
+pub(crate) fn put(slots: &mut [usize], i: usize, at: usize) {
+    if i < slots.len() {
+        slots[i] = at;
+    }
+}
+
 impl Sorted {
-    fn fails(self, fault: usize, at: usize) -> Sorted {
-        let mut next = self;
-        next.fault = fault;
-        next.at = at;
-        next
-    }
-
     // The argument put into the slot, where that is empty.
-    fn puts(self, slot: usize, at: usize, slots: &mut [usize]) -> Sorted {
+    fn puts(self, i: usize, at: usize, slots: &mut [usize]) -> Sorted {
         let mut next = self;
-        next.waiting = 0;
-        if 0 < crate::line::slot(slots, slot) {
-            return next.fails(fault::TWICE, slot);
+        if 0 < slot(slots, i) {
+            next.fault = fault::TWICE;
+            next.at = i;
+            return next;
         }
-        put(slots, slot, at);
+        put(slots, i, at);
         next
-    }
-
-    fn adds(self, at: usize, slots: &mut [usize]) -> Sorted {
-        let words = self.words;
-        if 4 < words {
-            return self.fails(fault::MANY, at);
-        }
-        let mut next = self;
-        next.words = words + 1;
-        next.puts(words, at, slots)
     }
 
     // One argument more, of that kind; a first fault stays.
     fn takes(self, kind: usize, at: usize, slots: &mut [usize]) -> Sorted {
-        if 0 < self.fault {
-            return self;
-        }
-        if kind == LONG {
-            return self.fails(fault::LONG, 0);
-        }
-        if 0 < self.waiting {
-            if kind == WORD {
-                return self.puts(self.waiting, at, slots);
-            }
-            return self.fails(fault::VALUE, self.at);
-        }
-        if self.ended || kind == WORD {
-            return self.adds(at, slots);
-        }
         let mut next = self;
-        next.at = at;
-        if kind == ENDS {
-            next.ended = true;
-            next
-        } else if kind == UNKNOWN {
-            next.fails(fault::OPTION, at)
-        } else if kind < 8 {
-            next.waiting = kind + 4;
-            next
-        } else {
-            next.puts(kind, at, slots)
+        if 0 < self.fault {
+            return next;
         }
+        let waiting = self.waiting;
+        let words = self.words;
+        if kind == LONG {
+            next.fault = fault::LONG;
+            next.at = 0;
+        } else if 0 < waiting && kind == WORD {
+            next.waiting = 0;
+            return next.puts(waiting, at, slots);
+        } else if 0 < waiting {
+            next.fault = fault::VALUE;
+        } else if self.ended || kind == WORD {
+            if words < 5 {
+                next.words = words + 1;
+                return next.puts(words, at, slots);
+            }
+            next.fault = fault::MANY;
+            next.at = at;
+        } else if 8 <= kind {
+            return next.puts(kind, at, slots);
+        } else {
+            next.at = at;
+            if kind == ENDS {
+                next.ended = true;
+            } else if kind == UNKNOWN {
+                next.fault = fault::OPTION;
+            } else {
+                next.waiting = kind + 4;
+            }
+        }
+        next
     }
 }
 
@@ -165,18 +166,7 @@ pub(crate) fn sort(slots: &mut [usize]) -> Sorted {
         i += 1;
     }
     if sorted.fault == 0 && 0 < sorted.waiting {
-        return sorted.fails(fault::VALUE, sorted.at);
+        sorted.fault = fault::VALUE;
     }
     sorted
-}
-
-// The argument of a slot, or 0.
-pub(crate) fn slot(slots: &[usize], i: usize) -> usize {
-    if i < slots.len() { slots[i] } else { 0 }
-}
-
-pub(crate) fn put(slots: &mut [usize], i: usize, at: usize) {
-    if i < slots.len() {
-        slots[i] = at;
-    }
 }

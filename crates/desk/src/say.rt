@@ -2,6 +2,15 @@
 // A unit that is not plain ASCII is printed in hexadecimal, so no text can begin a line of its own.
 use libc::STDOUT_FILENO;
 
+// How units and octets are printed: as typed, in hexadecimal, or as blanks that are as wide as either.
+pub(crate) const SHOWN: u8 = 0;
+
+pub(crate) const SPELLED: u8 = 1;
+
+pub(crate) const UNDER_SHOWN: u8 = 2;
+
+pub(crate) const UNDER_SPELLED: u8 = 3;
+
 pub(crate) fn say(words: &[u8]) {
     io::write_all(STDOUT_FILENO, words);
 }
@@ -20,74 +29,49 @@ pub(crate) fn octet(value: u8) {
     letter(typed::digit_for(value));
 }
 
-pub(crate) fn octets(list: &[u8]) {
-    for i in 0..list.len() {
-        octet(list[i]);
-    }
-}
-
-pub(crate) fn spelled(unit: u16) {
-    octet((unit / 256) as u8);
-    octet((unit % 256) as u8);
-}
-
-// Units in hexadecimal, as the option --units takes them.
-pub(crate) fn spelled_units(list: &[u16]) {
-    for i in 0..list.len() {
-        spelled(list[i]);
-    }
-}
-
-fn is_plain(unit: u16) -> bool {
-    32 <= unit && unit < 127
-}
-
-// A unit as it is typed, where it is plain ASCII, and else in hexadecimal.
-pub(crate) fn shown(unit: u16) {
-    if is_plain(unit) {
+pub(crate) fn unit(unit: u16, how: u8) {
+    let plain = 32 <= unit && unit < 127;
+    if how == UNDER_SPELLED {
+        say(b"    ");
+    } else if how == UNDER_SHOWN {
+        if plain {
+            say(b" ");
+        } else {
+            say(b"      ");
+        }
+    } else if how == SHOWN && plain {
         letter((unit % 128) as u8);
     } else {
-        say(b"<");
-        spelled(unit);
-        say(b">");
-    }
-}
-
-pub(crate) fn shown_units(list: &[u16]) {
-    for i in 0..list.len() {
-        shown(list[i]);
-    }
-}
-
-fn shown_octet(c: u8) {
-    shown(c as u16);
-}
-
-// An argument as it was typed.
-pub(crate) fn shown_word(word: &[u8]) {
-    for i in 0..word.len() {
-        shown_octet(word[i]);
-    }
-}
-
-pub(crate) fn spaces(n: usize) {
-    let mut left = n;
-    while 0 < left {
-        say(b" ");
-        left -= 1;
-    }
-}
-
-// Spaces as wide as the first n units are shown.
-pub(crate) fn spaces_under(list: &[u16], n: usize) {
-    for i in 0..list.len() {
-        if i < n {
-            if is_plain(list[i]) {
-                say(b" ");
-            } else {
-                say(b"      ");
-            }
+        if how == SHOWN {
+            say(b"<");
         }
+        octet((unit / 256) as u8);
+        octet((unit % 256) as u8);
+        if how == SHOWN {
+            say(b">");
+        }
+    }
+}
+
+pub(crate) fn units(list: &[u16], how: u8) {
+    for i in 0..list.len() {
+        unit(list[i], how);
+    }
+}
+
+fn octet_as(c: u8, how: u8) {
+    if how == SPELLED {
+        octet(c);
+    } else if how == UNDER_SPELLED {
+        say(b"  ");
+    } else {
+        unit(c as u16, how);
+    }
+}
+
+pub(crate) fn octets(list: &[u8], how: u8) {
+    for i in 0..list.len() {
+        octet_as(list[i], how);
     }
 }
 
@@ -107,13 +91,13 @@ fn more(n: usize) -> usize {
     if n < 4096 { n + 1 } else { n }
 }
 
-// Part i of a list, from 0; a bar closes each part.
+// Part i of a list, from 0. A bar closes each part; line ends are left out, so that a list can have a line for each part.
 pub(crate) fn part(list: &[u8], i: usize) {
     let mut before: usize = 0;
     for j in 0..list.len() {
         if list[j] == b'|' {
             before = more(before);
-        } else if before == i {
+        } else if before == i && list[j] != b'\n' {
             letter(list[j]);
         }
     }

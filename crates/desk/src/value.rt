@@ -2,30 +2,13 @@
 use crate::line;
 use typed::Elements;
 use typed::Number;
-use words::Service;
 ghost use Rattle.io.specs.Counts.{Counts};
 
-// The place behind the `=` of an option that holds its value, or 0.
-fn value_from(word: &[u8]) -> usize {
-    let mut from: usize = 0;
-    for i in 0..word.len() {
-        if word[i] == b'=' {
-            if from == 0 {
-                from = i + 1;
-            }
-        }
-    }
-    from
-}
-
-// A digit as the library reads it: in upper case.
-fn upper(c: u8) -> u8 {
-    if 97 <= c && c <= 102 { c - 32 } else { c }
-}
-
+// Moves a digit, in upper case, as the library reads it.
 fn move_digit(list: &mut [u8], from: usize, to: usize) {
     if from < list.len() && to < list.len() {
-        list[to] = upper(list[from]);
+        let c = list[from];
+        list[to] = if 97 <= c && c <= 102 { c - 32 } else { c };
     }
 }
 
@@ -40,12 +23,19 @@ fn to_front(list: &mut [u8], from: usize, n: usize) -> usize {
     n - from
 }
 
-// Puts the digits of a slot at the front of the list, and answers how many there are.
+// Puts the digits of a slot at the front of the list, and answers how many there are. An option may have its name and `=` before them.
 fn digits(slots: &[usize], slot: usize, list: &mut [u8]) -> usize
     ensures { λ r. ⌜ Counts r (now (list .exit)) ⌝ }
 {
     let n = os::arg(line::slot(slots, slot), list);
-    let from = if slot < 8 { 0 } else { value_from(&list[..n]) };
+    let name = line::name_length(&list[..n]);
+    let from = if slot < 8 {
+        0
+    } else if name < n {
+        name + 1
+    } else {
+        0
+    };
     let k = to_front(list, from, n);
     line::within(k, list)
 }
@@ -54,12 +44,6 @@ pub(crate) fn octets_at(slots: &[usize], slot: usize, out: &mut [u8]) -> Element
     let mut word = io::buffer();
     let n = digits(slots, slot, &mut word);
     typed::read_octets(&word[..n], out)
-}
-
-fn units_at(slots: &[usize], slot: usize, out: &mut [u16]) -> Elements {
-    let mut word = io::buffer();
-    let n = digits(slots, slot, &mut word);
-    typed::read_units(&word[..n], out)
 }
 
 // The number of a slot, and another one where the slot is empty.
@@ -77,9 +61,9 @@ fn wide(octet: u8) -> u32 {
 }
 
 // The one octet of a slot, and another one where the slot is empty.
-pub(crate) fn octet_at(slots: &[usize], slot: usize, otherwise: u8) -> Number {
+pub(crate) fn octet_at(slots: &[usize], slot: usize, otherwise: u32) -> Number {
     if line::slot(slots, slot) == 0 {
-        return Number::Is(otherwise as u32);
+        return Number::Is(otherwise);
     }
     let mut one = [0u8; 1];
     let read = octets_at(slots, slot, &mut one);
@@ -114,10 +98,11 @@ fn ascii_units(text: &[u8], out: &mut [u16]) -> Elements {
 
 // The units of the text that was typed: those of --units, or the letters of the third word.
 pub(crate) fn text_units(slots: &[usize], out: &mut [u16]) -> Elements {
-    if 0 < line::slot(slots, line::UNITS) {
-        return units_at(slots, line::UNITS, out);
-    }
     let mut text = io::buffer();
+    if 0 < line::slot(slots, line::UNITS) {
+        let n = digits(slots, line::UNITS, &mut text);
+        return typed::read_units(&text[..n], out);
+    }
     let n = os::arg(line::slot(slots, 2), &mut text);
     ascii_units(&text[..n], out)
 }

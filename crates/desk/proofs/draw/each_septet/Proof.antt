@@ -13,11 +13,11 @@ abbrev μ-loop : tie.MeasureT-loop
 loop-holds : tie.Need-loop-holds Inv-loop μ-loop
 loop-holds c = search needs
 
-shared-slice-read-septet-line : tie.Need-shared-slice-read-septet-line Inv-loop μ-loop
-shared-slice-read-septet-line c = search needs
+shared-slice-read-septet : tie.Need-shared-slice-read-septet Inv-loop μ-loop
+shared-slice-read-septet c = search needs
 
-septet-line-requires : tie.Need-septet-line-requires Inv-loop μ-loop
-septet-line-requires c κs = search needs
+septet-requires : tie.Need-septet-requires Inv-loop μ-loop
+septet-requires c κs = search needs
 
 shared-slice-read-meaning : tie.Need-shared-slice-read-meaning Inv-loop μ-loop
 shared-slice-read-meaning c = search needs
@@ -47,8 +47,8 @@ each-septet-spec =
     Inv-loop
     μ-loop
     loop-holds
-    shared-slice-read-septet-line
-    septet-line-requires
+    shared-slice-read-septet
+    septet-requires
     shared-slice-read-meaning
     sub-meaning
     meaning-requires

@@ -5,19 +5,31 @@ use Rattle.desk.proofs.draw.octets.Statement.{statement}
 use Rattle.desk.proofs.draw.octets.Tie as tie
 
 abbrev Inv-loop : tie.InvT-loop
-Inv-loop octets j₀ j-end j = j ≤ j-end
+Inv-loop list j₀ t3 t4 j-end j = j ≤ j-end
 
 abbrev μ-loop : tie.MeasureT-loop
-μ-loop octets j₀ j-end j = j-end - j
+μ-loop list j₀ t3 t4 j-end j = j-end - j
 
 loop-holds : tie.Need-loop-holds Inv-loop μ-loop
 loop-holds c = search needs
 
-shared-slice-read-octet-line : tie.Need-shared-slice-read-octet-line Inv-loop μ-loop
-shared-slice-read-octet-line c = search needs
+slice-aggregate-say : tie.Need-slice-aggregate-say Inv-loop μ-loop
+slice-aggregate-say c = search needs
 
-octet-line-requires : tie.Need-octet-line-requires Inv-loop μ-loop
-octet-line-requires c κs = search needs
+say-requires : tie.Need-say-requires Inv-loop μ-loop
+say-requires c κs = search needs
+
+shared-slice-read-piece : tie.Need-shared-slice-read-piece Inv-loop μ-loop
+shared-slice-read-piece c = search needs
+
+piece-requires : tie.Need-piece-requires Inv-loop μ-loop
+piece-requires c κs = search needs
+
+slice-aggregate-say-2 : tie.Need-slice-aggregate-say-2 Inv-loop μ-loop
+slice-aggregate-say-2 c = search needs
+
+say-requires-2 : tie.Need-say-requires-2 Inv-loop μ-loop
+say-requires-2 c κs = search needs
 
 add-j : tie.Need-add-j Inv-loop μ-loop
 add-j c = search needs
@@ -38,8 +50,12 @@ octets-spec =
     Inv-loop
     μ-loop
     loop-holds
-    shared-slice-read-octet-line
-    octet-line-requires
+    slice-aggregate-say
+    say-requires
+    shared-slice-read-piece
+    piece-requires
+    slice-aggregate-say-2
+    say-requires-2
     add-j
     loop-less
     loop-again

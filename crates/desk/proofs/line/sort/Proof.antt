@@ -33,9 +33,6 @@ loop-less c = search needs
 loop-again : tie.Need-loop-again Inv-loop μ-loop
 loop-again c = search needs
 
-fails-requires : tie.Need-fails-requires Inv-loop μ-loop
-fails-requires c κs = search needs
-
 same-length : tie.Need-same-length Inv-loop μ-loop
 same-length c = search needs
 
@@ -61,7 +58,6 @@ sort-spec =
     add-i
     loop-less
     loop-again
-    fails-requires
     same-length
     returns
     same-length-2

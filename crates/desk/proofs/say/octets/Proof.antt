@@ -5,19 +5,19 @@ use Rattle.desk.proofs.say.octets.Statement.{statement}
 use Rattle.desk.proofs.say.octets.Tie as tie
 
 abbrev Inv-loop : tie.InvT-loop
-Inv-loop list i₀ i-end i = i ≤ i-end
+Inv-loop list how i₀ i-end i = i ≤ i-end
 
 abbrev μ-loop : tie.MeasureT-loop
-μ-loop list i₀ i-end i = i-end - i
+μ-loop list how i₀ i-end i = i-end - i
 
 loop-holds : tie.Need-loop-holds Inv-loop μ-loop
 loop-holds c = search needs
 
-shared-slice-read-octet : tie.Need-shared-slice-read-octet Inv-loop μ-loop
-shared-slice-read-octet c = search needs
+shared-slice-read-octet-as : tie.Need-shared-slice-read-octet-as Inv-loop μ-loop
+shared-slice-read-octet-as c = search needs
 
-octet-requires : tie.Need-octet-requires Inv-loop μ-loop
-octet-requires c κs = search needs
+octet-as-requires : tie.Need-octet-as-requires Inv-loop μ-loop
+octet-as-requires c κs = search needs
 
 add-i : tie.Need-add-i Inv-loop μ-loop
 add-i c = search needs
@@ -38,8 +38,8 @@ octets-spec =
     Inv-loop
     μ-loop
     loop-holds
-    shared-slice-read-octet
-    octet-requires
+    shared-slice-read-octet-as
+    octet-as-requires
     add-i
     loop-less
     loop-again

@@ -19,6 +19,9 @@ shared-slice-read-if1 c = search needs
 more-requires : tie.Need-more-requires Inv-loop μ-loop
 more-requires c κs = search needs
 
+shared-slice-read-if3 : tie.Need-shared-slice-read-if3 Inv-loop μ-loop
+shared-slice-read-if3 c = search needs
+
 shared-slice-read-letter : tie.Need-shared-slice-read-letter Inv-loop μ-loop
 shared-slice-read-letter c = search needs
 
@@ -46,6 +49,7 @@ part-spec =
     loop-holds
     shared-slice-read-if1
     more-requires
+    shared-slice-read-if3
     shared-slice-read-letter
     letter-requires
     add-j
