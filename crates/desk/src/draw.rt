@@ -134,14 +134,12 @@ fn dropped(service: usize, kept: usize, total: usize) {
     if total <= kept {
         return;
     }
-    if total - kept == 1 {
+    if service == job::USSD {
         septet(kept, filler);
     } else {
-        say::say(b"septets ");
+        say::say(b"septets from ");
         say::number(kept);
-        say::say(b" to ");
-        say::number(total - 1);
-        say::say(b" ");
+        say::say(b" on ");
         say::octet(filler);
         say::say(b": ");
     }
@@ -210,10 +208,8 @@ pub(crate) fn units(list: &[u16], octets: usize) {
         letter(list[i]);
     }
     if list.len() < octets / 2 {
-        say::say(b"units ");
+        say::say(b"units from ");
         say::number(list.len());
-        say::say(b" to ");
-        say::number(octets / 2 - 1);
-        say::say(b" 000D: closing CR, page filling, dropped\n");
+        say::say(b" on 000D: closing CR, page filling, dropped\n");
     }
 }

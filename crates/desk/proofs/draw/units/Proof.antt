@@ -5,10 +5,10 @@ use Rattle.desk.proofs.draw.units.Statement.{statement}
 use Rattle.desk.proofs.draw.units.Tie as tie
 
 abbrev Inv-loop : tie.InvT-loop
-Inv-loop list octets i₀ t4 t5 t6 t7 t8 t9 t10 t11 i-end i = i ≤ i-end
+Inv-loop list octets i₀ t4 t5 t6 t7 t8 t9 t10 i-end i = i ≤ i-end
 
 abbrev μ-loop : tie.MeasureT-loop
-μ-loop list octets i₀ t4 t5 t6 t7 t8 t9 t10 t11 i-end i = i-end - i
+μ-loop list octets i₀ t4 t5 t6 t7 t8 t9 t10 i-end i = i-end - i
 
 loop-holds : tie.Need-loop-holds Inv-loop μ-loop
 loop-holds c = search needs
@@ -103,18 +103,6 @@ slice-aggregate-say-7 c = search needs
 say-requires-7 : tie.Need-say-requires-7 Inv-loop μ-loop
 say-requires-7 c κs = search needs
 
-sub-number : tie.Need-sub-number Inv-loop μ-loop
-sub-number c = search needs
-
-number-requires-5 : tie.Need-number-requires-5 Inv-loop μ-loop
-number-requires-5 c κs = search needs
-
-slice-aggregate-say-8 : tie.Need-slice-aggregate-say-8 Inv-loop μ-loop
-slice-aggregate-say-8 c = search needs
-
-say-requires-8 : tie.Need-say-requires-8 Inv-loop μ-loop
-say-requires-8 c κs = search needs
-
 returns : tie.Need-returns Inv-loop μ-loop
 returns c = search needs
 
@@ -158,9 +146,5 @@ units-spec =
     number-requires-4
     slice-aggregate-say-7
     say-requires-7
-    sub-number
-    number-requires-5
-    slice-aggregate-say-8
-    say-requires-8
     returns
     returns-2)
