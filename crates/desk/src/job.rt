@@ -56,14 +56,14 @@ fn spread(slots: &mut [usize]) {
 // its coding and its count among the words.
 pub(crate) fn suits(verb: usize, slots: &mut [usize], words: usize) -> bool {
     let odd = strange(verb, slots);
-    let wanted = if 0 < line::slot(slots, line::UNITS) {
-        2
-    } else {
-        3
-    };
+    let short = verb == help::HELP || 0 < line::slot(slots, line::UNITS);
+    let wanted = if short { 2 } else { 3 };
     if 0 < odd {
         fault::complain(fault::STRANGE, odd, verb);
         return false;
+    }
+    if verb == help::HELP && words < 3 {
+        return true;
     }
     if words < 2 {
         fault::complain(fault::NO_SERVICE, 0, verb);
@@ -103,11 +103,11 @@ pub(crate) struct Job {
     pub room: usize,
 }
 
-fn no_job(fault: usize, at: usize) -> Job {
+fn no_job(fault: usize, at: usize, verb: usize) -> Job {
     Job {
         fault: fault,
         at: at,
-        verb: 0,
+        verb: verb,
         service: 0,
         coding: 0,
         count: 0,
@@ -124,16 +124,16 @@ pub(crate) fn settle(verb: usize, service: usize, slots: &[usize]) -> Job {
     };
     let counts = verb == help::READ || verb == help::EXPLAIN || verb == help::UNPACK;
     if counts && service == SMS && line::slot(slots, line::COUNT) == 0 {
-        return no_job(fault::COUNT, 0);
+        return no_job(fault::COUNT, 0, verb);
     }
     let Number::Is(coding) = value::octet_at(slots, line::CODING, plain) else {
-        return no_job(fault::CODING, line::slot(slots, line::CODING));
+        return no_job(fault::CODING, line::slot(slots, line::CODING), verb);
     };
     let Number::Is(count) = value::number_at(slots, line::COUNT, 0) else {
-        return no_job(fault::NUMBER, line::slot(slots, line::COUNT));
+        return no_job(fault::NUMBER, line::slot(slots, line::COUNT), verb);
     };
     let Number::Is(room) = value::number_at(slots, line::ROOM, 4096) else {
-        return no_job(fault::NUMBER, line::slot(slots, line::ROOM));
+        return no_job(fault::NUMBER, line::slot(slots, line::ROOM), verb);
     };
     Job {
         fault: 0,

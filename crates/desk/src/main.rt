@@ -34,15 +34,16 @@ fn help_on(at: usize) {
 fn run(verb: usize, slots: &mut [usize], words: usize) {
     let at = line::slot(slots, 1);
     let service = place_at(at, b"sms|cbs|ussd|old|");
-    if verb == help::HELP && words < 3 {
+    if !job::suits(verb, slots, words) {
+        return;
+    }
+    if verb == help::HELP {
         help_on(at);
-    } else if job::suits(verb, slots, words) {
-        if job::OLD < service {
-            fault::complain(fault::SERVICE, at, verb);
-        } else {
-            let settled = job::settle(verb, service, slots);
-            verbs::run(settled, slots);
-        }
+    } else if job::OLD < service {
+        fault::complain(fault::SERVICE, at, verb);
+    } else {
+        let settled = job::settle(verb, service, slots);
+        verbs::run(settled, slots);
     }
 }
 
