@@ -191,21 +191,26 @@ pub(crate) fn septets(job: Job, octets: &[u8]) {
     }
 }
 
+// A unit, the two octets where it lies, and its letter.
+fn unit_line(i: usize, unit: u16) {
+    say::say(b"unit ");
+    say::number(i);
+    say::say(b" ");
+    say::unit(unit, say::SPELLED);
+    if i < 200 {
+        say::say(b" octets ");
+        say::number(2 * i);
+        say::say(b", ");
+        say::number(2 * i + 1);
+    }
+    say::say(b": ");
+    letter(unit);
+}
+
 // Units, and those that fill the octets of a page.
 pub(crate) fn units(list: &[u16], octets: usize) {
     for i in 0..list.len() {
-        say::say(b"unit ");
-        say::number(i);
-        say::say(b" ");
-        say::unit(list[i], say::SPELLED);
-        if i < 200 {
-            say::say(b" octets ");
-            say::number(2 * i);
-            say::say(b", ");
-            say::number(2 * i + 1);
-        }
-        say::say(b": ");
-        letter(list[i]);
+        unit_line(i, list[i]);
     }
     if list.len() < octets / 2 {
         say::say(b"units from ");

@@ -146,14 +146,6 @@ fn read(job: Job, octets: &[u8]) {
     }
 }
 
-fn tell(job: Job, octets: &[u8], at: usize) {
-    if octets.len() == 1 {
-        facts::tell(job::service_of(job.service), octets[0]);
-    } else {
-        fault::complain(fault::CODING, at, help::CODING);
-    }
-}
-
 fn on_octets(job: Job, slots: &[usize]) {
     let mut list = [0u8; 2048];
     let read_list = value::octets_at(slots, 2, &mut list);
@@ -163,7 +155,13 @@ fn on_octets(job: Job, slots: &[usize]) {
         Elements::Done(n) => {
             let k = line::within(n, &list);
             match verb {
-                help::CODING => tell(job, &list[..k], at),
+                help::CODING => {
+                    if k == 1 {
+                        facts::tell(job::service_of(job.service), list[0]);
+                    } else {
+                        fault::complain(fault::CODING, at, verb);
+                    }
+                }
                 help::PACK => pack(job, &list[..k]),
                 help::UNPACK => unpack(job, &list[..k]),
                 _ => read(job, &list[..k]),
