@@ -21,37 +21,38 @@ need_rt() {
   exit 2
 }
 
-# archive: proves the exported calls and builds target/staticlib/libwikuay.a, where a source is newer or there is none.
-archive() {
-  local made=target/staticlib/libwikuay.a me=${0##*/}
-  if [ -f $made ] && [ -z "$(find crates.txt crates \( -name '*.rt' -o -name '*.antt' -o -name crates.txt \) -newer $made -print -quit)" ]; then
-    return
-  fi
-  printf '%s: proving and building libwikuay.a; this takes some minutes\n' "$me"
+# stale FILE: whether it is missing, or a source is newer.
+stale() {
+  [ ! -f "$1" ] || [ -n "$(find crates.txt crates \( -name '*.rt' -o -name '*.antt' -o -name crates.txt \) -newer "$1" -print -quit)" ]
+}
+
+# prove WORDS..: runs rt on the words, with a line for each crate on standard error. Ends the script where that fails.
+prove() {
+  local me=${0##*/}
   mkdir -p target
-  if ! rt staticlib wikuay >target/archive.log 2>&1; then
-    printf '%s: the build failed; target/archive.log says why\n' "$me"
+  if ! rt "$@" 2>&1 | tee target/prove.log | sed -u -n "s/^rt: \([a-z0-9_]* proved.*\)/$me: \1/p" >&2; then
+    printf '%s: the proof or the build failed; target/prove.log says why\n' "$me" >&2
     exit 1
   fi
+}
+
+# archive: proves the exported calls and builds target/staticlib/libwikuay.a, where that is stale.
+archive() {
+  stale target/staticlib/libwikuay.a || return 0
+  printf '%s: proving and building libwikuay.a; this takes some minutes\n' "${0##*/}" >&2
+  prove staticlib wikuay
+}
+
+# program NAME: proves and builds target/bin/NAME, where that is stale.
+program() {
+  stale "target/bin/$1" || return 0
+  printf '%s: proving and building the program %s; this takes some minutes\n' "${0##*/}" "$1" >&2
+  prove check "$1"
+  touch "target/bin/$1"
 }
 
 # kit: the folder of the Rattle kit.
 kit() { dirname "$(dirname "$(rt doc)")"; }
-
-# program NAME: proves and builds target/bin/NAME, where a source is newer or there is none, with one line a crate.
-program() {
-  local made=target/bin/$1 me=${0##*/}
-  if [ -x "$made" ] && [ -z "$(find crates.txt crates \( -name '*.rt' -o -name crates.txt \) -newer "$made" -print -quit)" ]; then
-    return
-  fi
-  printf '%s: proving and building the program %s; this takes some minutes\n' "$me" "$1" >&2
-  mkdir -p target
-  if ! rt check "$1" 2>&1 | tee "target/$1.log" | sed -u -n "s/^rt: \([a-z0-9_]* proved.*\)/$me: \1/p" >&2; then
-    printf '%s: the build failed; target/%s.log says why\n' "$me" "$1" >&2
-    exit 1
-  fi
-  touch "$made"
-}
 
 # run NAME WORDS..: runs target/bin/NAME. It is x86-64: the kit has its loader and library, and on Arm an emulator.
 run() {

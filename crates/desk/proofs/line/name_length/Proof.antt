@@ -1,15 +1,14 @@
--- `is_ascii` is safe and ends: the place is at most the length, and what is left of it falls. Assumes nothing.
+-- `name_length` is safe and ends: the place is at most the length, and what is left of it falls. Assumes nothing.
 use Prim.Native.Nat.{_≤_, _-_}
-use lib.ListN.{length}
 use borrow.Author.Needs.{needs}
-use Rattle.desk.proofs.is_ascii.Statement.{statement}
-use Rattle.desk.proofs.is_ascii.Tie as tie
+use Rattle.desk.proofs.line.name_length.Statement.{statement}
+use Rattle.desk.proofs.line.name_length.Tie as tie
 
 abbrev Inv-loop : tie.InvT-loop
-Inv-loop text i₀ i = i ≤ length text
+Inv-loop word i₀ i-end i = i ≤ i-end
 
 abbrev μ-loop : tie.MeasureT-loop
-μ-loop text i₀ i = length text - i
+μ-loop word i₀ i-end i = i-end - i
 
 loop-holds : tie.Need-loop-holds Inv-loop μ-loop
 loop-holds c = search needs
@@ -32,8 +31,8 @@ loop-again c = search needs
 returns-2 : tie.Need-returns-2 Inv-loop μ-loop
 returns-2 c = search needs
 
-pub is-ascii-spec : {M : Type 1} → statement M
-is-ascii-spec =
+pub name-length-spec : {M : Type 1} → statement M
+name-length-spec =
     tie.close
     (tie.spec
     Inv-loop
