@@ -41,6 +41,7 @@ archive() {
   stale target/staticlib/libwikuay.a || return 0
   printf '%s: proving and building libwikuay.a; this takes some minutes\n' "${0##*/}" >&2
   prove staticlib wikuay
+  touch target/staticlib/libwikuay.a
 }
 
 # program NAME: proves and builds target/bin/NAME, where that is stale.
