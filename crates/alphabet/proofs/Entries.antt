@@ -11,10 +11,10 @@ use lib.Dec.{T, eqb, ltb, eqb→eq}
 use lib.ListN.{length}
 use borrow.Author.Tests.{lt-ltb, le-ltb, ne-eqb}
 use Rattle.words.specs.Lists.{firstPlace}
-use Rattle.words.proofs.Tests.{everyEntry, every-entry}
+use Rattle.words.proofs.Tests.{everyEntry, every-entry, everyBelow, every-below}
 use Rattle.alphabet.specs.declared.Listed.{Listed}
 use Rattle.alphabet.specs.declared.Listed.the-variants.{Unlisted, Main, Extension}
-use Rattle.alphabet.specs.Tables.{mainTable, extension, codes, units, among}
+use Rattle.alphabet.specs.Tables.{mainTable, extension, codes, units, among, beside}
 use Rattle.alphabet.specs.Writing.{listedAs}
 use Rattle.alphabet.specs.Reading.{afterEscape}
 use Rattle.alphabet.specs.Inner.{listing, RightFrom, shown, RightUnits}
@@ -122,3 +122,21 @@ none-among ys x h = le-ltb _ _ (subst (λ (n : ℕ). length ys ≤ n) (sym (none
 pub other-shown : (code : ℕ) → NoneOf (codes extension) code Unit → shown code ≡ afterEscape code
 unfolding afterEscape shown
 other-shown code h = sym (simp (none-among (codes extension) code h))
+
+-- the Greek capitals in the order of the code's match
+abbrev pub greekUnits : List ℕ
+greekUnits = 0x0394 ∷ 0x03a6 ∷ 0x0393 ∷ 0x039b ∷ 0x03a9 ∷ 0x03a0 ∷ 0x03a8 ∷ 0x03a3 ∷ 0x0398 ∷ 0x039e ∷ []
+
+unfoldable greekTest : ℕ → Bool
+greekTest u = cond (among greekUnits u) true (same Unlisted (listedAs u))
+
+greek-tests : T (everyBelow (λ k. greekTest (0x393 + k)) 23)
+unfolding greekTest among beside firstPlace listedAs mainTable extension
+greek-tests = tt
+
+pub greek-unlisted : (u : ℕ) → 0x393 ≤ u → u < 0x3aa → NoneOf greekUnits u Unit → Unlisted ≡ listedAs u
+unfolding greekTest
+greek-unlisted u h below none =
+    let e : 0x393 + (u - 0x393) ≡ u = omega arith in
+    let t : T (greekTest u) = subst (λ (x : ℕ). T (greekTest x)) e (every-below (λ k. greekTest (0x393 + k)) 23 greek-tests (u - 0x393) (omega arith)) in
+    same-is Unlisted (listedAs u) (simp (none-among greekUnits u none) at t)

@@ -1,7 +1,7 @@
 // The tables of the alphabet as the code reads them, and how it reads them.
 // A constant array is built anew wherever it is named, so a loop over units or codes takes its table once and lends it on.
 ghost use mathlib.Core.Path.{_≡_};
-ghost use Prim.Native.Nat.{_<_};
+ghost use Prim.Native.Nat.{_≤_, _<_};
 ghost use Rattle.alphabet.specs.Writing.{listedAs};
 ghost use Rattle.alphabet.specs.Reading.{afterEscape, oldUnit};
 ghost use Rattle.alphabet.specs.Inner.{listing, shown, RightFrom, RightUnits};
@@ -423,33 +423,6 @@ const LOW: [u8; 256] = [
     0xff,
 ];
 
-// The same for each unit from 0x393 to 0x3a9, where the Greek capitals lie.
-const GREEK: [u8; 23] = [
-    0x13,
-    0x10,
-    0xff,
-    0xff,
-    0xff,
-    0x19,
-    0xff,
-    0xff,
-    0x14,
-    0xff,
-    0xff,
-    0x1a,
-    0xff,
-    0x16,
-    0xff,
-    0xff,
-    0x18,
-    0xff,
-    0xff,
-    0x12,
-    0xff,
-    0x17,
-    0x15,
-];
-
 // The table of units, to be lent to the functions below.
 pub(crate) fn unit_table() -> [u16; 128]
     ensures answer { λ r. ⌜ RightUnits r ⌝ }
@@ -462,13 +435,6 @@ pub(crate) fn low_table() -> [u8; 256]
     ensures answer { λ r. ⌜ RightFrom 0 0x100 r ⌝ }
 {
     LOW
-}
-
-// The table of the units from 0x393 to 0x3a9.
-fn greek_table() -> [u8; 23]
-    ensures answer { λ r. ⌜ RightFrom 0x393 23 r ⌝ }
-{
-    GREEK
 }
 
 // What an entry says of its unit.
@@ -484,7 +450,7 @@ pub(crate) fn listed(entry: u8) -> Listed
     Listed::Unlisted
 }
 
-// The unit's entry: by direct index below 0x100 and among the Greek capitals, by a test for the euro sign.
+// The unit's entry: by direct index below 0x100, by a match among the Greek capitals, by a test for the euro sign.
 pub(crate) fn entry_of(unit: u16, low: &[u8; 256]) -> u8
     requires { ⌜ RightFrom 0 0x100 (now low) ⌝ }
     ensures answer { λ r. ⌜ listing r ≡ listedAs unit ⌝ }
@@ -497,8 +463,7 @@ pub(crate) fn entry_of(unit: u16, low: &[u8; 256]) -> u8
         return 0xff;
     }
     if i < 0x3aa {
-        let greek = greek_table();
-        return greek[i - 0x393];
+        return greek_entry(unit);
     }
     if i == 0x20ac {
         return 0xe5;
@@ -547,4 +512,24 @@ pub(crate) fn old_unit(code: u8, units: &[u16; 128]) -> u16
         return 0x0020;
     }
     shown_unit(code, units)
+}
+
+// The same among the Greek capitals, from 0x393 to 0x3a9. The compiler makes a constant table of it, where an array would be built each time.
+fn greek_entry(unit: u16) -> u8
+    requires { ⌜ (0x393 ≤ unit) × (unit < 0x3aa) ⌝ }
+    ensures answer { λ r. ⌜ listing r ≡ listedAs unit ⌝ }
+{
+    match unit {
+        0x0394 => 0x10,
+        0x03a6 => 0x12,
+        0x0393 => 0x13,
+        0x039b => 0x14,
+        0x03a9 => 0x15,
+        0x03a0 => 0x16,
+        0x03a8 => 0x17,
+        0x03a3 => 0x18,
+        0x0398 => 0x19,
+        0x039e => 0x1a,
+        _ => 0xff,
+    }
 }

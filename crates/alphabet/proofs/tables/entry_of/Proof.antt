@@ -1,7 +1,6 @@
 -- `alphabet::tables::entry_of` meets its contract: within the ranges of the tables by their entries, outside them because no printed row lies there.
 -- Assumes nothing.
-use mathlib.Core.Path.{_≡_, sym, ap, _∙_}
-use Prim.Native.Nat.{ℕ, _+_, _-_}
+use mathlib.Core.Path.{sym, ap, _∙_}
 use native.Mathlib.Nat.{zero-add}
 use native.Mathlib.Omega.{arith}
 use borrow.Author.Needs.{needs}
@@ -23,17 +22,11 @@ returns-2 : tie.Need-returns-2
 unfolding listing
 returns-2 c = between-unlisted (c .before .before .args .unit) (omega arith) (omega arith)
 
-greek-table-requires : tie.Need-greek-table-requires
-greek-table-requires c κs = search needs
-
-array-read-result : tie.Need-array-read-result
-array-read-result c = search needs
+greek-entry-requires : tie.Need-greek-entry-requires
+greek-entry-requires c κs = search needs
 
 returns-3 : tie.Need-returns-3
-returns-3 c =
-    let u : ℕ = c .before .before .before .before .args .unit in
-    let e : 0x393 + (u - 0x393) ≡ u = omega arith in
-    c .greek-table .ensures .at (u - 0x393) (omega arith) ∙ ap listedAs e
+returns-3 c = c .greek-entry .ensures
 
 returns-4 : tie.Need-returns-4
 unfolding listing listedAs among beside firstPlace mainTable extension
@@ -50,8 +43,7 @@ entry-of-spec =
     element-copy-out-result
     returns
     returns-2
-    greek-table-requires
-    array-read-result
+    greek-entry-requires
     returns-3
     returns-4
     returns-5)
