@@ -6,6 +6,7 @@ ghost use Rattle.alphabet.specs.Reading.{textAnswers, textLeaves};
 ghost use Rattle.packing.specs.SeptetCalls.{packAnswers, packLeaves};
 ghost use Rattle.words.specs.Sizes.{isOldPage};
 ghost use Rattle.coding.specs.Holding.{isUcs2};
+ghost use Rattle.coding.specs.Readings.{unmentioned};
 ghost use Rattle.message.specs.MessageRead.{shownSeptets, readAnswers, readLeaves};
 ghost use Rattle.message.specs.MessageWritten.{writeAnswers, writeLeaves};
 ghost use Rattle.message.specs.Inner.{heldReads, heldReadLeaves, septetReads, septetReadLeaves, heldWrites, heldWriteLeaves, septetWrites, septetWriteLeaves, shownAs, packedAs, ucs2Count, unitsAs, asTooLong};
@@ -128,6 +129,19 @@ pub fn write_message(
 {
     match reading.write(service) {
         OctetWritten::Done(coding) => write_held(service, reading, coding, units, out),
+        OctetWritten::Refused(refusal) => MessageWritten::Refused(refusal),
+    }
+}
+
+// Writes plain 7-bit text: what write_message does with Reading::plain(), whose coding octet is known beforehand.
+// Refuses an old page (8), a unit that is not in the alphabet (6, the first), a text over the service's size (5), a short buffer (7).
+// Stores the octets at the front of out; a refusal stores nothing.
+pub fn write_plain(service: Service, units: &[u16], out: &mut [u8]) -> MessageWritten
+    ensures answer { λ r. ⌜ r ≡ writeAnswers service unmentioned (now (units .entry)) (length (now (out .entry))) ⌝ }
+    ensures buffer { λ r. ⌜ now (out .exit) ≡ writeLeaves service unmentioned (now (units .entry)) (now (out .entry)) ⌝ }
+{
+    match coding::plain_octet(service) {
+        OctetWritten::Done(coding) => write_septets(service, coding, units, out),
         OctetWritten::Refused(refusal) => MessageWritten::Refused(refusal),
     }
 }

@@ -4,6 +4,7 @@ ghost use mathlib.Core.Bool.{true};
 ghost use Prim.Native.Nat.{_<_};
 ghost use Rattle.wikuay.specs.Names.{namedService, namedNotice, namesFlags, namesFields, readingWith, namedReading, numbersOf};
 ghost use Rattle.coding.specs.Numbers.{flagNo};
+ghost use Rattle.coding.specs.Readings.{unmentioned};
 use crate::ReadingNumbers;
 use coding::Alphabet;
 use coding::Notice;
@@ -169,6 +170,16 @@ fn bare(numbers: ReadingNumbers) -> bool
         return false;
     }
     numbers.notice == 0
+}
+
+// True only for the numbers of the plain reading, 7-bit text with nothing special.
+pub(crate) fn plain(numbers: ReadingNumbers) -> bool
+    ensures { λ r. ⌜ (r ≡ true → namedReading numbers ≡ namedReading (numbersOf unmentioned)) ⌝ }
+{
+    if numbers.alphabet != 0 {
+        return false;
+    }
+    bare(numbers)
 }
 
 // The reading whose fields have these numbers. Plain text, 7-bit or UCS2, is by far the most, and needs no table.

@@ -1,12 +1,9 @@
 -- `bare` meets its contract: it answers true only after every test. Assumes nothing.
-use mathlib.Core.Path.{_≡_, sym, subst}
-use mathlib.Core.Bool.{true, false}
+use mathlib.Core.Path.{sym, subst}
 use lib.Dec.{T, eqb→eq}
+use Rattle.wikuay.proofs.Named.{never}
 use Rattle.wikuay.proofs.names.bare.Statement.{statement}
 use Rattle.wikuay.proofs.names.bare.Tie as tie
-
-never : {A : Type 0} → false ≡ true → A
-never e = absurd (subst T (sym e) tt)
 
 returns : tie.Need-returns
 returns c = never
