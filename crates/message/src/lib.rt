@@ -1,11 +1,13 @@
 // Whole messages: text into octets under a service and a reading, and octets back into text.
 ghost use mathlib.Core.Path.{_≡_};
-ghost use mathlib.Core.Bool.{false};
+ghost use mathlib.Core.Bool.{true, false};
 ghost use lib.ListN.{length};
 ghost use Rattle.alphabet.specs.Reading.{textAnswers, textLeaves};
 ghost use Rattle.packing.specs.SeptetCalls.{packAnswers, packLeaves};
 ghost use Rattle.words.specs.Sizes.{isOldPage};
 ghost use Rattle.coding.specs.Holding.{isUcs2};
+ghost use Rattle.coding.specs.OctetRead.{octetReads};
+ghost use Rattle.coding.specs.declared.OctetRead.the-variants.{Done};
 ghost use Rattle.coding.specs.Readings.{unmentioned};
 ghost use Rattle.message.specs.MessageRead.{shownSeptets, readAnswers, readLeaves};
 ghost use Rattle.message.specs.MessageWritten.{writeAnswers, writeLeaves};
@@ -52,9 +54,22 @@ pub fn read_message(
     ensures answer { λ r. ⌜ r ≡ readAnswers service coding count (now (octets .entry)) (length (now (out .entry))) ⌝ }
     ensures buffer { λ r. ⌜ now (out .exit) ≡ readLeaves service coding count (now (octets .entry)) (now (out .entry)) ⌝ }
 {
+    if is_plain(service, coding) {
+        return shown(Reading::plain(), read_septets(service, count, octets, out));
+    }
     match coding::read_octet(service, coding) {
         OctetRead::Done(reading) => read_held(service, reading, count, octets, out),
         OctetRead::Refused(refusal) => MessageRead::Refused(refusal),
+    }
+}
+
+// True only for the coding octet that plain 7-bit text is written with, by far the most read: its reading need not be built.
+fn is_plain(service: Service, coding: u8) -> bool
+    ensures { λ r. ⌜ (r ≡ true → octetReads service coding ≡ Done unmentioned) ⌝ }
+{
+    match coding::plain_octet(service) {
+        OctetWritten::Done(octet) => octet == coding,
+        OctetWritten::Refused(_) => false,
     }
 }
 
