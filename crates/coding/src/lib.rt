@@ -2,7 +2,7 @@
 ghost use mathlib.Core.Path.{_≡_};
 ghost use Prim.Native.Nat.{_<_, _/_, _%_};
 ghost use Rattle.coding.specs.Readings.{unmentioned, withAlphabet, withClass, withLanguage, withNotice};
-ghost use Rattle.coding.specs.OctetRead.{readShort, readPage, octetReads};
+ghost use Rattle.coding.specs.OctetRead.{octetReads};
 ghost use Rattle.coding.specs.Numbers.{alphabetNo, classNo, languageNo, kindNo, noticeNo, flagNo};
 ghost use Rattle.coding.specs.OctetWritten.{sameReading, octetWrites};
 ghost use Rattle.coding.specs.Holding.{holdsText};
@@ -514,40 +514,14 @@ fn user_class(octet: u8) -> u8
     USER_CLASSES[i]
 }
 
-// What an octet says in a short message. Plain text, 7-bit or UCS2, needs no table.
-fn short_reading(octet: u8) -> Reading
-    ensures { λ r. ⌜ r ≡ readShort octet ⌝ }
-{
-    if octet == 0x00 {
-        return Reading::plain();
-    }
-    if octet == 0x08 {
-        return Reading::plain().with_alphabet(Alphabet::Ucs2);
-    }
-    reading_of(short_key(octet))
-}
-
-// What an octet says in a broadcast page and in USSD.
-fn page_reading(octet: u8) -> Reading
-    ensures { λ r. ⌜ r ≡ readPage octet ⌝ }
-{
-    if octet == 0x0f {
-        return Reading::plain();
-    }
-    if octet == 0x48 {
-        return Reading::plain().with_alphabet(Alphabet::Ucs2);
-    }
-    reading_of(page_key(octet))
-}
-
 // What an octet says under a service. Refuses 2 for an old page whose bits 3..0 are not 0.
 pub fn read_octet(service: Service, octet: u8) -> OctetRead
     ensures answer { λ r. ⌜ r ≡ octetReads service octet ⌝ }
 {
     match service {
-        Service::ShortMessage => OctetRead::Done(short_reading(octet)),
-        Service::Broadcast => OctetRead::Done(page_reading(octet)),
-        Service::Ussd => OctetRead::Done(page_reading(octet)),
+        Service::ShortMessage => OctetRead::Done(reading_of(short_key(octet))),
+        Service::Broadcast => OctetRead::Done(reading_of(page_key(octet))),
+        Service::Ussd => OctetRead::Done(reading_of(page_key(octet))),
         Service::OldPage => {
             if 0 < octet % 16 {
                 OctetRead::Refused(Refusal::NoText)

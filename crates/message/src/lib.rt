@@ -54,10 +54,7 @@ pub fn read_message(
     ensures answer { λ r. ⌜ r ≡ readAnswers service coding count (now (octets .entry)) (length (now (out .entry))) ⌝ }
     ensures buffer { λ r. ⌜ now (out .exit) ≡ readLeaves service coding count (now (octets .entry)) (now (out .entry)) ⌝ }
 {
-    if is_plain(service, coding) {
-        return shown(Reading::plain(), read_septets(service, count, octets, out));
-    }
-    match coding::read_octet(service, coding) {
+    match said(service, coding) {
         OctetRead::Done(reading) => read_held(service, reading, count, octets, out),
         OctetRead::Refused(refusal) => MessageRead::Refused(refusal),
     }
@@ -71,6 +68,16 @@ fn is_plain(service: Service, coding: u8) -> bool
         OctetWritten::Done(octet) => octet == coding,
         OctetWritten::Refused(_) => false,
     }
+}
+
+// What the coding octet says.
+fn said(service: Service, coding: u8) -> OctetRead
+    ensures { λ r. ⌜ r ≡ octetReads service coding ⌝ }
+{
+    if is_plain(service, coding) {
+        return OctetRead::Done(Reading::plain());
+    }
+    coding::read_octet(service, coding)
 }
 
 // The reader behind the coding octet.

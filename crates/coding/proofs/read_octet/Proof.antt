@@ -1,7 +1,8 @@
--- `read_octet` meets its contract: each service has its reading of an octet, and an old page goes by the remainder by 16. Assumes nothing.
+-- `read_octet` meets its contract: the key of an octet is that of its reading, and an old page goes by the remainder by 16. Assumes nothing.
 use Rattle.coding.proofs.Old.{old-refused, old-read}
+use Rattle.coding.proofs.Octets.{short-key-is, page-key-is, key-valid, key-back}
 use Rattle.coding.specs.declared.OctetRead.the-variants.{Done}
-use Rattle.coding.specs.OctetRead.{octetRules, octetReads}
+use Rattle.coding.specs.OctetRead.{octetRules, octetReads, readShort, readPage}
 use Rattle.words.specs.Judging.{verdict}
 use Rattle.words.specs.declared.Service.{Service}
 use mathlib.Core.Path.{ap, sym, _∙_}
@@ -12,20 +13,29 @@ use Rattle.coding.proofs.read_octet.Tie as tie
 enum-told : tie.Need-enum-told
 enum-told c = search needs
 
-short-reading-requires : tie.Need-short-reading-requires
-short-reading-requires c κs = search needs
+short-key-requires : tie.Need-short-key-requires
+short-key-requires c κs = search needs
+
+reading-of-requires : tie.Need-reading-of-requires
+reading-of-requires c κs = let o = c .before .before .before .args .octet in key-valid (readShort o) _ (c .short-key .ensures ∙ short-key-is o (search needs))
 
 enum-told-2 : tie.Need-enum-told-2
 enum-told-2 c = search needs
 
-page-reading-requires : tie.Need-page-reading-requires
-page-reading-requires c κs = search needs
+page-key-requires : tie.Need-page-key-requires
+page-key-requires c κs = search needs
+
+reading-of-requires-2 : tie.Need-reading-of-requires-2
+reading-of-requires-2 c κs = let o = c .before .before .before .args .octet in key-valid (readPage o) _ (c .page-key .ensures ∙ page-key-is o (search needs))
 
 enum-told-3 : tie.Need-enum-told-3
 enum-told-3 c = search needs
 
-page-reading-requires-2 : tie.Need-page-reading-requires-2
-page-reading-requires-2 c κs = search needs
+page-key-requires-2 : tie.Need-page-key-requires-2
+page-key-requires-2 c κs = search needs
+
+reading-of-requires-3 : tie.Need-reading-of-requires-3
+reading-of-requires-3 c κs = let o = c .before .before .before .args .octet in key-valid (readPage o) _ (c .page-key2 .ensures ∙ page-key-is o (search needs))
 
 enum-told-4 : tie.Need-enum-told-4
 enum-told-4 c = search needs
@@ -35,15 +45,15 @@ plain-requires c κs = search needs
 
 returns : tie.Need-returns
 unfolding octetReads octetRules verdict
-returns c = simp (c .before .enum-told .given .1, c .short-reading .ensures)
+returns c = let o = c .before .before .before .before .args .octet in simp (c .before .before .enum-told .given .1, c .reading-of .ensures, key-back (readShort o) _ (c .before .short-key .ensures ∙ short-key-is o (search needs)))
 
 returns-2 : tie.Need-returns-2
 unfolding octetReads octetRules verdict
-returns-2 c = simp (c .before .enum-told2 .given .1, c .page-reading .ensures)
+returns-2 c = let o = c .before .before .before .before .args .octet in simp (c .before .before .enum-told2 .given .1, c .reading-of2 .ensures, key-back (readPage o) _ (c .before .page-key .ensures ∙ page-key-is o (search needs)))
 
 returns-3 : tie.Need-returns-3
 unfolding octetReads octetRules verdict
-returns-3 c = simp (c .before .enum-told3 .given .1, c .page-reading2 .ensures)
+returns-3 c = let o = c .before .before .before .before .args .octet in simp (c .before .before .enum-told3 .given .1, c .reading-of3 .ensures, key-back (readPage o) _ (c .before .page-key2 .ensures ∙ page-key-is o (search needs)))
 
 returns-4 : tie.Need-returns-4
 returns-4 c = let o = c .before .before .before .args .octet in sym (ap (λ (s : Service). octetReads s o) (c .before .enum-told4 .given .1) ∙ old-refused o (c .if1 .taken))
@@ -56,11 +66,14 @@ read-octet-spec =
     tie.close
     (tie.spec
     enum-told
-    short-reading-requires
+    short-key-requires
+    reading-of-requires
     enum-told-2
-    page-reading-requires
+    page-key-requires
+    reading-of-requires-2
     enum-told-3
-    page-reading-requires-2
+    page-key-requires-2
+    reading-of-requires-3
     enum-told-4
     plain-requires
     returns
