@@ -24,6 +24,8 @@ use Rattle.coding.proofs.Reading.with_notice.Kinds as with-notice-kinds
 use Rattle.coding.proofs.Reading.with_notice.Reads as with-notice-reads
 use Rattle.coding.proofs.Reading.same.Kinds as same-kinds
 use Rattle.coding.proofs.Reading.same.Reads as same-reads
+use Rattle.coding.proofs.plain_octet.Kinds as plain-octet-kinds
+use Rattle.coding.proofs.plain_octet.Reads as plain-octet-reads
 use Rattle.coding.proofs.Reading.write.Kinds as write-kinds
 use Rattle.coding.proofs.Reading.write.Reads as write-reads
 use Rattle.coding.proofs.Reading.holds.Kinds as holds-kinds
@@ -63,6 +65,9 @@ with-notice-unique κs a x y u v p q = p ∙ sym q
 
 pub same-unique : OneAnswer same-kinds.ps same-kinds.r same-reads.Post
 same-unique κs a x y u v p q = p ∙ sym q
+
+pub plain-octet-unique : OneAnswer plain-octet-kinds.ps plain-octet-kinds.r plain-octet-reads.Post
+plain-octet-unique κs a x y u v p q = p ∙ sym q
 
 pub write-unique : OneAnswer write-kinds.ps write-kinds.r write-reads.Post
 write-unique κs a x y u v p q = p ∙ sym q

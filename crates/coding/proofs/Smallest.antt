@@ -3,12 +3,12 @@
 -- Assumes nothing.
 use mathlib.Core.Path.{_≡_, refl, ap, _∙_, sym, subst}
 use mathlib.Core.Bool.{Bool, true, false, cond}
-use Prim.Native.Nat.{ℕ, _≤_, _<_}
+use Prim.Native.Nat.{ℕ, _/_, _%_, _≤_, _<_}
 use native.Mathlib.Nat.{zero-add}
 use native.Mathlib.Omega.{arith}
 use native.Mathlib.Decide.{decLe}
 use borrow.Author.Tests.{ne-eqb}
-use lib.Dec.{T, eqb, leb, leb→le}
+use lib.Dec.{T, eqb, ltb, leb, leb→le}
 use lib.ListN.{getD}
 use Rattle.words.specs.Bits.{bitOf, gather, bitsOf}
 use Rattle.words.specs.Lists.{firstPlace, numbersFrom}
@@ -129,11 +129,29 @@ module _ (s : Service) (key try : ℕ → ℕ) (new : isOldPage s ≡ false) (ke
       go true e = write-found s r (try (keyOf r)) new plain (found-tried (readUnder s) (λ (r : Reading). try (keyOf r)) all r plain l (subst T e tt)) l
       go false e = write-none s r new plain (found-none (readUnder s) (λ (r : Reading). try (keyOf r)) all r plain (λ h. subst T (sym e) h))
 
-pub write-short : (r : Reading) → r .reserved ≡ false → shortTry (keyOf r) < 256 → octetWrites ShortMessage r ≡ checkedOctet (keyOf r) (shortTry (keyOf r)) (shortKey (shortTry (keyOf r)))
-write-short = by-try ShortMessage shortKey shortTry refl short-key-is short-good
+-- what is tried is an octet
+below : (b : Bool) (x y n : ℕ) → x < n → y < n → cond b x y < n
+below true x y n l m = l
+below false x y n l m = m
 
-pub write-broadcast : (r : Reading) → r .reserved ≡ false → pageTry (keyOf r) < 256 → octetWrites Broadcast r ≡ checkedOctet (keyOf r) (pageTry (keyOf r)) (pageKey (pageTry (keyOf r)))
-write-broadcast = by-try Broadcast pageKey pageTry refl page-key-is page-good
+short-try-octet : (k : ℕ) → shortTry k < 256
+unfolding shortTry
+short-try-octet k = below (eqb (k / 1024 % 64) 0) _ _ 256 (omega arith) (omega arith)
 
-pub write-ussd : (r : Reading) → r .reserved ≡ false → pageTry (keyOf r) < 256 → octetWrites Ussd r ≡ checkedOctet (keyOf r) (pageTry (keyOf r)) (pageKey (pageTry (keyOf r)))
-write-ussd = by-try Ussd pageKey pageTry refl page-key-is page-good
+page-try-octet : (k : ℕ) → pageTry k < 256
+unfolding pageTry
+page-try-octet k =
+    below (ltb (k / 32 % 32) 15) _ _ 256 (omega arith)
+    (below (ltb 15 (k / 32 % 32)) _ _ 256 (omega arith)
+    (below (eqb (k / 262144 % 2) 1) _ _ 256 (omega arith)
+    (below (eqb (k % 4) 3) _ _ 256 (omega arith)
+    (below (eqb (generalTry k) 0) _ _ 256 (omega arith) (omega arith)))))
+
+pub write-short : (r : Reading) → r .reserved ≡ false → octetWrites ShortMessage r ≡ checkedOctet (keyOf r) (shortTry (keyOf r)) (shortKey (shortTry (keyOf r)))
+write-short r plain = by-try ShortMessage shortKey shortTry refl short-key-is short-good r plain (short-try-octet (keyOf r))
+
+pub write-broadcast : (r : Reading) → r .reserved ≡ false → octetWrites Broadcast r ≡ checkedOctet (keyOf r) (pageTry (keyOf r)) (pageKey (pageTry (keyOf r)))
+write-broadcast r plain = by-try Broadcast pageKey pageTry refl page-key-is page-good r plain (page-try-octet (keyOf r))
+
+pub write-ussd : (r : Reading) → r .reserved ≡ false → octetWrites Ussd r ≡ checkedOctet (keyOf r) (pageTry (keyOf r)) (pageKey (pageTry (keyOf r)))
+write-ussd r plain = by-try Ussd pageKey pageTry refl page-key-is page-good r plain (page-try-octet (keyOf r))

@@ -598,6 +598,46 @@ fn checked(key: u32, octet: u8, back: u32) -> OctetWritten
     }
 }
 
+// The octet of a short message for a key. Plain text, 7-bit or UCS2, is by far the most, so its octets are known.
+fn short_octet(key: u32) -> OctetWritten
+    ensures { λ r. ⌜ r ≡ checkedOctet key (shortTry key) (shortKey (shortTry key)) ⌝ }
+{
+    if key == PLAIN {
+        return OctetWritten::Done(0x00);
+    }
+    if key == PLAIN + UCS2 {
+        return OctetWritten::Done(0x08);
+    }
+    let octet = short_try(key);
+    checked(key, octet, short_key(octet))
+}
+
+// The octet of a broadcast page or USSD for a key.
+fn page_octet(key: u32) -> OctetWritten
+    ensures { λ r. ⌜ r ≡ checkedOctet key (pageTry key) (pageKey (pageTry key)) ⌝ }
+{
+    if key == PLAIN {
+        return OctetWritten::Done(0x0f);
+    }
+    if key == PLAIN + UCS2 {
+        return OctetWritten::Done(0x48);
+    }
+    let octet = page_try(key);
+    checked(key, octet, page_key(octet))
+}
+
+// The octet of plain 7-bit text under a service: what writing Reading::plain() gives. Refuses 8 for an old page.
+pub fn plain_octet(service: Service) -> OctetWritten
+    ensures answer { λ r. ⌜ r ≡ octetWrites service unmentioned ⌝ }
+{
+    match service {
+        Service::ShortMessage => OctetWritten::Done(0x00),
+        Service::Broadcast => OctetWritten::Done(0x0f),
+        Service::Ussd => OctetWritten::Done(0x0f),
+        Service::OldPage => OctetWritten::Refused(Refusal::Unwritable),
+    }
+}
+
 impl Reading {
     // The smallest octet that reads as self under the service: it builds the one octet that can, and reads it back.
     // Refuses 8 for an old page, for a reserved reading, and where no octet reads so.
@@ -609,18 +649,9 @@ impl Reading {
         }
         let key = self.key();
         match service {
-            Service::ShortMessage => {
-                let octet = short_try(key);
-                checked(key, octet, short_key(octet))
-            }
-            Service::Broadcast => {
-                let octet = page_try(key);
-                checked(key, octet, page_key(octet))
-            }
-            Service::Ussd => {
-                let octet = page_try(key);
-                checked(key, octet, page_key(octet))
-            }
+            Service::ShortMessage => short_octet(key),
+            Service::Broadcast => page_octet(key),
+            Service::Ussd => page_octet(key),
             Service::OldPage => OctetWritten::Refused(Refusal::Unwritable),
         }
     }

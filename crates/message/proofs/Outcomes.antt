@@ -7,6 +7,8 @@ use Rattle.message.proofs.read_message.Kinds as read-kinds
 use Rattle.message.proofs.read_message.Reads as read
 use Rattle.message.proofs.write_message.Kinds as write-kinds
 use Rattle.message.proofs.write_message.Reads as write
+use Rattle.message.proofs.write_plain.Kinds as plain-kinds
+use Rattle.message.proofs.write_plain.Reads as plain
 
 pub read-message-unique : OneAnswer read-kinds.ps read-kinds.r read.Post
 read-message-unique κs a x y u v p q = p .0 ∙ sym (q .0)
@@ -19,3 +21,9 @@ write-message-unique κs a x y u v p q = p .0 ∙ sym (q .0)
 
 pub write-message-buffer-unique : OneBuffer write-kinds.ps write-kinds.r (λ κs u. now (u .1 .1 .1 .0)) write.Post
 write-message-buffer-unique κs a x y u v p q = p .1 ∙ sym (q .1)
+
+pub write-plain-unique : OneAnswer plain-kinds.ps plain-kinds.r plain.Post
+write-plain-unique κs a x y u v p q = p .0 ∙ sym (q .0)
+
+pub write-plain-buffer-unique : OneBuffer plain-kinds.ps plain-kinds.r (λ κs u. now (u .1 .1 .0)) plain.Post
+write-plain-buffer-unique κs a x y u v p q = p .1 ∙ sym (q .1)

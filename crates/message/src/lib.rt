@@ -1,11 +1,14 @@
 // Whole messages: text into octets under a service and a reading, and octets back into text.
 ghost use mathlib.Core.Path.{_≡_};
-ghost use mathlib.Core.Bool.{false};
+ghost use mathlib.Core.Bool.{true, false};
 ghost use lib.ListN.{length};
 ghost use Rattle.alphabet.specs.Reading.{textAnswers, textLeaves};
 ghost use Rattle.packing.specs.SeptetCalls.{packAnswers, packLeaves};
 ghost use Rattle.words.specs.Sizes.{isOldPage};
 ghost use Rattle.coding.specs.Holding.{isUcs2};
+ghost use Rattle.coding.specs.OctetRead.{octetReads};
+ghost use Rattle.coding.specs.declared.OctetRead.the-variants.{Done};
+ghost use Rattle.coding.specs.Readings.{unmentioned};
 ghost use Rattle.message.specs.MessageRead.{shownSeptets, readAnswers, readLeaves};
 ghost use Rattle.message.specs.MessageWritten.{writeAnswers, writeLeaves};
 ghost use Rattle.message.specs.Inner.{heldReads, heldReadLeaves, septetReads, septetReadLeaves, heldWrites, heldWriteLeaves, septetWrites, septetWriteLeaves, shownAs, packedAs, ucs2Count, unitsAs, asTooLong};
@@ -51,10 +54,30 @@ pub fn read_message(
     ensures answer { λ r. ⌜ r ≡ readAnswers service coding count (now (octets .entry)) (length (now (out .entry))) ⌝ }
     ensures buffer { λ r. ⌜ now (out .exit) ≡ readLeaves service coding count (now (octets .entry)) (now (out .entry)) ⌝ }
 {
-    match coding::read_octet(service, coding) {
+    match said(service, coding) {
         OctetRead::Done(reading) => read_held(service, reading, count, octets, out),
         OctetRead::Refused(refusal) => MessageRead::Refused(refusal),
     }
+}
+
+// True only for the coding octet that plain 7-bit text is written with, by far the most read: its reading need not be built.
+fn is_plain(service: Service, coding: u8) -> bool
+    ensures { λ r. ⌜ (r ≡ true → octetReads service coding ≡ Done unmentioned) ⌝ }
+{
+    match coding::plain_octet(service) {
+        OctetWritten::Done(octet) => octet == coding,
+        OctetWritten::Refused(_) => false,
+    }
+}
+
+// What the coding octet says.
+fn said(service: Service, coding: u8) -> OctetRead
+    ensures { λ r. ⌜ r ≡ octetReads service coding ⌝ }
+{
+    if is_plain(service, coding) {
+        return OctetRead::Done(Reading::plain());
+    }
+    coding::read_octet(service, coding)
 }
 
 // The reader behind the coding octet.
@@ -128,6 +151,19 @@ pub fn write_message(
 {
     match reading.write(service) {
         OctetWritten::Done(coding) => write_held(service, reading, coding, units, out),
+        OctetWritten::Refused(refusal) => MessageWritten::Refused(refusal),
+    }
+}
+
+// Writes plain 7-bit text: what write_message does with Reading::plain(), whose coding octet is known beforehand.
+// Refuses an old page (8), a unit that is not in the alphabet (6, the first), a text over the service's size (5), a short buffer (7).
+// Stores the octets at the front of out; a refusal stores nothing.
+pub fn write_plain(service: Service, units: &[u16], out: &mut [u8]) -> MessageWritten
+    ensures answer { λ r. ⌜ r ≡ writeAnswers service unmentioned (now (units .entry)) (length (now (out .entry))) ⌝ }
+    ensures buffer { λ r. ⌜ now (out .exit) ≡ writeLeaves service unmentioned (now (units .entry)) (now (out .entry)) ⌝ }
+{
+    match coding::plain_octet(service) {
+        OctetWritten::Done(coding) => write_septets(service, coding, units, out),
         OctetWritten::Refused(refusal) => MessageWritten::Refused(refusal),
     }
 }

@@ -2,7 +2,7 @@
 -- Assumes nothing.
 --   service-named, service-number: a service's number names it, and what a number names has that number
 --   reading-named, reading-number: the same of a reading and the numbers of its fields
-use mathlib.Core.Path.{_≡_, refl, ap, sym, _∙_}
+use mathlib.Core.Path.{_≡_, refl, ap, sym, subst, _∙_}
 use mathlib.Core.Bool.{Bool, true, false, cond}
 use mathlib.Core.List.{List}
 use Prim.Native.Nat.{ℕ, zero, suc, _<_, _/_, _%_}
@@ -35,6 +35,10 @@ use Rattle.wikuay.specs.Names.{serviceNo, namedService, namedNotice, num
 cond-reads : {A : Type 0} (reads : A → ℕ) (n : ℕ) (b : Bool) (x y : A) → (b ≡ true → reads x ≡ n) → reads y ≡ n → reads (cond b x y) ≡ n
 cond-reads reads n true x y h k = h refl
 cond-reads reads n false x y h k = k
+
+-- a test that answers false answers nothing else
+pub never : {A : Type 0} → false ≡ true → A
+never e = absurd (subst T (sym e) tt)
 
 -- ---- services
 

@@ -155,12 +155,17 @@ pub extern "C" fn wikuay_write_message(
     ensures buffer { λ r. ⌜ now (out .exit) ≡ writeMessageKeeps service reading (now (text .entry)) (now (out .entry)) ⌝ }
 {
     match names::service(service) {
-        NamedService::Named(service) => match names::reading(reading) {
-            NamedReading::Named(reading) => {
-                answers::message_written(message::write_message(service, reading, text, out))
+        NamedService::Named(service) => {
+            if names::plain(reading) {
+                return answers::message_written(message::write_plain(service, text, out));
             }
-            NamedReading::Unnamed => answers::refused(Refusal::Unwritable),
-        },
+            match names::reading(reading) {
+                NamedReading::Named(reading) => {
+                    answers::message_written(message::write_message(service, reading, text, out))
+                }
+                NamedReading::Unnamed => answers::refused(Refusal::Unwritable),
+            }
+        }
         NamedService::Unnamed => answers::refused(Refusal::Unwritable),
     }
 }

@@ -1,9 +1,12 @@
 // Numbers that cross from C, and what they name: a service, and the fields of a reading.
 ghost use mathlib.Core.Path.{_≡_};
+ghost use mathlib.Core.Bool.{true};
 ghost use Prim.Native.Nat.{_<_};
 ghost use Rattle.wikuay.specs.Names.{namedService, namedNotice, namesFlags, namesFields, readingWith, namedReading, numbersOf};
 ghost use Rattle.coding.specs.Numbers.{flagNo};
+ghost use Rattle.coding.specs.Readings.{unmentioned};
 use crate::ReadingNumbers;
+use coding::Alphabet;
 use coding::Notice;
 use coding::Reading;
 use words::Service;
@@ -144,8 +147,58 @@ fn with(numbers: ReadingNumbers, notice: Notice) -> Reading
     }
 }
 
-// The reading whose fields have these numbers.
+// Whether every field but the alphabet has the number of what a rule does not mention.
+fn bare(numbers: ReadingNumbers) -> bool
+    ensures { λ r. ⌜ (r ≡ true → (numbers .compressed ≡ 0) × (numbers .class ≡ 0) × (numbers .language ≡ 15) × (numbers .deletion ≡ 0) × (numbers .prefix ≡ 0) × (numbers .reserved ≡ 0) × (numbers .notice ≡ 0)) ⌝ }
+{
+    if numbers.compressed != 0 {
+        return false;
+    }
+    if numbers.class != 0 {
+        return false;
+    }
+    if numbers.language != 15 {
+        return false;
+    }
+    if numbers.deletion != 0 {
+        return false;
+    }
+    if numbers.prefix != 0 {
+        return false;
+    }
+    if numbers.reserved != 0 {
+        return false;
+    }
+    numbers.notice == 0
+}
+
+// True only for the numbers of the plain reading, 7-bit text with nothing special.
+pub(crate) fn plain(numbers: ReadingNumbers) -> bool
+    ensures { λ r. ⌜ (r ≡ true → namedReading numbers ≡ namedReading (numbersOf unmentioned)) ⌝ }
+{
+    if numbers.alphabet != 0 {
+        return false;
+    }
+    bare(numbers)
+}
+
+// The reading whose fields have these numbers. Plain text, 7-bit or UCS2, is by far the most, and needs no table.
 pub(crate) fn reading(numbers: ReadingNumbers) -> NamedReading
+    ensures { λ r. ⌜ r ≡ namedReading numbers ⌝ }
+{
+    if bare(numbers) {
+        if numbers.alphabet == 0 {
+            return NamedReading::Named(Reading::plain());
+        }
+        if numbers.alphabet == 2 {
+            return NamedReading::Named(Reading::plain().with_alphabet(Alphabet::Ucs2));
+        }
+    }
+    any_reading(numbers)
+}
+
+// The reading whose fields have these numbers, each looked up.
+fn any_reading(numbers: ReadingNumbers) -> NamedReading
     ensures { λ r. ⌜ r ≡ namedReading numbers ⌝ }
 {
     if fields(numbers) {
