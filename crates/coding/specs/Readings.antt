@@ -1,12 +1,13 @@
 -- Document 01, "Reading the data coding octet": what a reading holds where a rule does not mention it, and a reading changed in one field.
 -- Own rule: none. Cited by Reading::plain and the with_ methods. Assumes nothing.
 --   unmentioned       == the values of what a rule does not mention
+--   plainIn ucs2      == the same, but UCS2 where ucs2 is true
 --   reservedReading   == how a reserved coding reads: the unmentioned values with the reserved mark
 --   withAlphabet a r, withCompressed b r, withClass c r, withLanguage l r, withDeletion b r, withNotice n r, withPrefix b r
 --                     == r with that field changed
-use mathlib.Core.Bool.{Bool, true, false}
+use mathlib.Core.Bool.{Bool, true, false, cond}
 use Rattle.coding.specs.declared.Alphabet.{Alphabet}
-use Rattle.coding.specs.declared.Alphabet.the-variants.{SevenBit}
+use Rattle.coding.specs.declared.Alphabet.the-variants.{SevenBit, Ucs2}
 use Rattle.coding.specs.declared.Class.{Class}
 use Rattle.coding.specs.declared.Class.the-variants.{Unset}
 use Rattle.coding.specs.declared.Language.{Language}
@@ -24,6 +25,9 @@ reservedReading = record { alphabet = SevenBit; compressed = false; class = Unse
 
 abbrev pub withAlphabet : Alphabet → Reading → Reading
 withAlphabet a r = record { alphabet = a; compressed = r .compressed; class = r .class; language = r .language; deletion = r .deletion; notice = r .notice; prefix = r .prefix; reserved = r .reserved }
+
+abbrev pub plainIn : Bool → Reading
+plainIn ucs2 = withAlphabet (cond ucs2 Ucs2 SevenBit) unmentioned
 
 abbrev pub withCompressed : Bool → Reading → Reading
 withCompressed b r = record { alphabet = r .alphabet; compressed = b; class = r .class; language = r .language; deletion = r .deletion; notice = r .notice; prefix = r .prefix; reserved = r .reserved }

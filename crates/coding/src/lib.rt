@@ -1,10 +1,12 @@
 // The data coding octet: read under a service, and written as the smallest octet that reads so.
 ghost use mathlib.Core.Path.{_≡_};
 ghost use Prim.Native.Nat.{_<_, _/_, _%_};
-ghost use Rattle.coding.specs.Readings.{unmentioned, withAlphabet, withClass, withLanguage, withNotice};
+ghost use Rattle.coding.specs.Readings.{unmentioned, plainIn, withAlphabet, withClass, withLanguage, withNotice};
 ghost use Rattle.coding.specs.OctetRead.{octetReads};
 ghost use Rattle.coding.specs.Numbers.{alphabetNo, classNo, languageNo, kindNo, noticeNo, flagNo};
 ghost use Rattle.coding.specs.OctetWritten.{sameReading, octetWrites};
+ghost use Rattle.coding.specs.declared.OctetWritten.the-variants.{Done};
+ghost use mathlib.Core.Bool.{cond};
 ghost use Rattle.coding.specs.Holding.{holdsText};
 ghost use Rattle.coding.specs.Inner.{keyOf, noticeAt, readingOf, userClass, generalKey, noticeKey, lastKey, shortKey, pageKey, classBits, generalTry, shortTry, pageTry, checkedOctet};
 use words::Refusal;
@@ -626,15 +628,26 @@ fn page_octet(key: u32) -> OctetWritten
     checked(key, octet, page_key(octet))
 }
 
-// The octet of plain 7-bit text under a service: what writing Reading::plain() gives. Refuses 8 for an old page.
-pub fn plain_octet(service: Service) -> OctetWritten
-    ensures answer { λ r. ⌜ r ≡ octetWrites service unmentioned ⌝ }
+// The octet of plain text under a service, 7-bit or UCS2: what writing Reading::plain() in that alphabet gives. Refuses 8 for an old page.
+pub fn plain_octet(service: Service, ucs2: bool) -> OctetWritten
+    ensures answer { λ r. ⌜ r ≡ octetWrites service (plainIn ucs2) ⌝ }
 {
     match service {
-        Service::ShortMessage => OctetWritten::Done(0x00),
-        Service::Broadcast => OctetWritten::Done(0x0f),
-        Service::Ussd => OctetWritten::Done(0x0f),
+        Service::ShortMessage => plain_done(ucs2, 0x00, 0x08),
+        Service::Broadcast => plain_done(ucs2, 0x0f, 0x48),
+        Service::Ussd => plain_done(ucs2, 0x0f, 0x48),
         Service::OldPage => OctetWritten::Refused(Refusal::Unwritable),
+    }
+}
+
+// One octet for 7-bit text, or one for UCS2.
+fn plain_done(ucs2: bool, septets: u8, units: u8) -> OctetWritten
+    ensures { λ r. ⌜ r ≡ Done (cond ucs2 units septets) ⌝ }
+{
+    if ucs2 {
+        OctetWritten::Done(units)
+    } else {
+        OctetWritten::Done(septets)
     }
 }
 

@@ -1,41 +1,77 @@
--- `plain_octet` meets its contract: the definition computes what is tried for the plain reading, and that reads back. Assumes nothing.
+-- `plain_octet` meets its contract: the definition computes what is tried for a plain reading, and that reads back. Assumes nothing.
 use Rattle.coding.proofs.Smallest.{write-old, write-short, write-broadcast, write-ussd}
 use Rattle.coding.specs.Inner.{keyOf, generalKey, generalTry, shortKey, shortTry, pageKey, pageTry}
 use Rattle.coding.specs.OctetWritten.{octetWrites}
-use Rattle.coding.specs.Readings.{unmentioned}
+use Rattle.coding.specs.Readings.{plainIn}
+use Rattle.coding.specs.declared.OctetWritten.the-variants.{Done}
 use Rattle.words.specs.declared.Service.{Service}
-use mathlib.Core.Path.{refl, ap, sym, _∙_}
+use Rattle.words.specs.declared.Service.the-variants.{ShortMessage, Broadcast, Ussd}
+use mathlib.Core.Bool.{Bool, true, false, cond}
+use mathlib.Core.Path.{_≡_, refl, ap, sym, _∙_}
 use borrow.Author.Needs.{needs}
 use Rattle.coding.proofs.plain_octet.Statement.{statement}
 use Rattle.coding.proofs.plain_octet.Tie as tie
 
+short-plain : (ucs2 : Bool) → Done (cond ucs2 0x08 0x00) ≡ octetWrites ShortMessage (plainIn ucs2)
+unfolding keyOf shortTry generalTry shortKey generalKey
+short-plain true = sym (write-short (plainIn true) refl)
+short-plain false = sym (write-short (plainIn false) refl)
+
+page-plain : (ucs2 : Bool) → Done (cond ucs2 0x48 0x0f) ≡ octetWrites Broadcast (plainIn ucs2)
+unfolding keyOf pageTry generalTry pageKey generalKey
+page-plain true = sym (write-broadcast (plainIn true) refl)
+page-plain false = sym (write-broadcast (plainIn false) refl)
+
+ussd-plain : (ucs2 : Bool) → Done (cond ucs2 0x48 0x0f) ≡ octetWrites Ussd (plainIn ucs2)
+unfolding keyOf pageTry generalTry pageKey generalKey
+ussd-plain true = sym (write-ussd (plainIn true) refl)
+ussd-plain false = sym (write-ussd (plainIn false) refl)
+
 enum-told : tie.Need-enum-told
 enum-told c = search needs
+
+plain-done-requires : tie.Need-plain-done-requires
+plain-done-requires c κs = search needs
 
 enum-told-2 : tie.Need-enum-told-2
 enum-told-2 c = search needs
 
+plain-done-requires-2 : tie.Need-plain-done-requires-2
+plain-done-requires-2 c κs = search needs
+
 enum-told-3 : tie.Need-enum-told-3
 enum-told-3 c = search needs
+
+plain-done-requires-3 : tie.Need-plain-done-requires-3
+plain-done-requires-3 c κs = search needs
 
 enum-told-4 : tie.Need-enum-told-4
 enum-told-4 c = search needs
 
 returns : tie.Need-returns
-unfolding keyOf shortTry generalTry shortKey generalKey
-returns c = sym (ap (λ (s : Service). octetWrites s unmentioned) (c .enum-told .given .1) ∙ write-short unmentioned refl)
+returns c = let b = c .before .before .before .args .ucs2 in c .plain-done .ensures ∙ short-plain b ∙ ap (λ (s : Service). octetWrites s (plainIn b)) (sym (c .before .enum-told .given .1))
 
 returns-2 : tie.Need-returns-2
-unfolding keyOf pageTry generalTry pageKey
-returns-2 c = sym (ap (λ (s : Service). octetWrites s unmentioned) (c .enum-told2 .given .1) ∙ write-broadcast unmentioned refl)
+returns-2 c = let b = c .before .before .before .args .ucs2 in c .plain-done2 .ensures ∙ page-plain b ∙ ap (λ (s : Service). octetWrites s (plainIn b)) (sym (c .before .enum-told2 .given .1))
 
 returns-3 : tie.Need-returns-3
-unfolding keyOf pageTry generalTry pageKey
-returns-3 c = sym (ap (λ (s : Service). octetWrites s unmentioned) (c .enum-told3 .given .1) ∙ write-ussd unmentioned refl)
+returns-3 c = let b = c .before .before .before .args .ucs2 in c .plain-done3 .ensures ∙ ussd-plain b ∙ ap (λ (s : Service). octetWrites s (plainIn b)) (sym (c .before .enum-told3 .given .1))
 
 returns-4 : tie.Need-returns-4
-returns-4 c = sym (ap (λ (s : Service). octetWrites s unmentioned) (c .enum-told4 .given .1) ∙ write-old unmentioned)
+returns-4 c = let b = c .before .before .args .ucs2 in sym (ap (λ (s : Service). octetWrites s (plainIn b)) (c .enum-told4 .given .1) ∙ write-old (plainIn b))
 
 pub plain-octet-spec : {M : Type 1} → statement M
 plain-octet-spec =
-    tie.close (tie.spec enum-told enum-told-2 enum-told-3 enum-told-4 returns returns-2 returns-3 returns-4)
+    tie.close
+    (tie.spec
+    enum-told
+    plain-done-requires
+    enum-told-2
+    plain-done-requires-2
+    enum-told-3
+    plain-done-requires-3
+    enum-told-4
+    returns
+    returns-2
+    returns-3
+    returns-4)
