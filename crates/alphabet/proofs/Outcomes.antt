@@ -5,6 +5,8 @@ use denote.Ref.{now}
 use Rattle.words.proofs.Unique.{OneAnswer, OneBuffer}
 use Rattle.alphabet.proofs.find.Kinds as find-kinds
 use Rattle.alphabet.proofs.find.Reads as find
+use Rattle.alphabet.proofs.encode.Kinds as encode-kinds
+use Rattle.alphabet.proofs.encode.Reads as encode
 use Rattle.alphabet.proofs.septets_in.Kinds as septets-in-kinds
 use Rattle.alphabet.proofs.septets_in.Reads as septets-in
 use Rattle.alphabet.proofs.text_to_septets.Kinds as text-to-septets-kinds
@@ -16,6 +18,12 @@ use Rattle.alphabet.proofs.old_page_to_text.Reads as old-page-to-text
 
 pub find-unique : OneAnswer find-kinds.ps find-kinds.r find.Post
 find-unique κs a x y u v p q = p ∙ sym q
+
+pub encode-unique : OneAnswer encode-kinds.ps encode-kinds.r encode.Post
+encode-unique κs a x y u v p q = p .0 ∙ sym (q .0)
+
+pub encode-buffer-unique : OneBuffer encode-kinds.ps encode-kinds.r (λ κs u. now (u .1 .0)) encode.Post
+encode-buffer-unique κs a x y u v p q = p .1 ∙ sym (q .1)
 
 pub septets-in-unique : OneAnswer septets-in-kinds.ps septets-in-kinds.r septets-in.Post
 septets-in-unique κs a x y u v p q = p ∙ sym q

@@ -6,7 +6,6 @@ ghost use Prim.Native.Nat.{_+_, _-_, _≤_};
 ghost use lib.Dec.{eqb};
 ghost use lib.ListN.{length, take};
 ghost use Rattle.words.specs.Lists.{laid};
-ghost use Rattle.alphabet.specs.Writing.{septetsAnswers, septetsLeaves};
 ghost use Rattle.alphabet.specs.Reading.{textAnswers, textLeaves};
 ghost use Rattle.alphabet.specs.Inner.{Own, OwnFrom, AllOwn, readAs};
 use words::Filled;
@@ -71,39 +70,46 @@ fn odd_units(text: &[u16], from: usize, to: usize) -> u16
     bits
 }
 
-// How many units at the front of a text are their own codes: all of them, or some multiple of 16 before the first that is not.
+// The same of the eight units from a place on.
+fn odd_eight_units(text: &[u16], n: usize) -> u16
+    requires { ⌜ n + 8 ≤ length (now text) ⌝ }
+    ensures { λ r. ⌜ (r ≡ 0 → OwnFrom (now (text .entry)) n (n + 8)) ⌝ }
+{
+    odd_units(text, n, n + 8)
+}
+
+// How many units at the front of a text are their own codes: all of them, or some multiple of eight before the first that is not. Sixteen at a
+// time, and the end eight at a time, the last eight over again where they overlap: a loop over fewer would go unit by unit, and gains nothing
+// on a text that is shorter than eight.
 pub(crate) fn own_front(text: &[u16]) -> usize
     ensures { λ r. ⌜ (r ≤ length (now (text .entry))) × OwnFrom (now (text .entry)) 0 r ⌝ }
 {
-    let mut n: usize = 0;
-    while 16 <= text.len() - n {
-        let next = n + 16;
-        if odd_units(text, n, next) != 0 {
-            return n;
-        }
-        n = next;
-    }
-    if odd_end(text, n) != 0 {
-        return n;
-    }
-    text.len()
-}
-
-// 0 only for units of which each is its own code, from a place among the last sixteen on. Eight at a time, the last eight over again where
-// they overlap: a loop over fewer would go unit by unit.
-fn odd_end(text: &[u16], n: usize) -> u16
-    requires { ⌜ (n ≤ length (now text)) × (length (now text) ≤ n + 16) ⌝ }
-    ensures { λ r. ⌜ (r ≡ 0 → OwnFrom (now (text .entry)) n (length (now (text .entry)))) ⌝ }
-{
     let len = text.len();
     if len < 8 {
-        return odd_units(text, n, len);
+        return 0;
     }
-    let last = odd_units(text, len - 8, len);
-    if 8 < len - n {
-        return odd_units(text, n, n + 8) | last;
+    let mut n: usize = 0;
+    while 16 <= len - n {
+        if odd_units(text, n, n + 16) != 0 {
+            if odd_eight_units(text, n) == 0 {
+                return n + 8;
+            }
+            return n;
+        }
+        n += 16;
     }
-    last
+    if 8 <= len - n {
+        if odd_eight_units(text, n) != 0 {
+            return n;
+        }
+        n += 8;
+    }
+    if n < len {
+        if odd_eight_units(text, len - 8) != 0 {
+            return n;
+        }
+    }
+    len
 }
 
 // 0 only for septets of which each is its own unit.
@@ -143,20 +149,6 @@ fn copy_septets(septets: &[u8], out: &mut [u16])
         out[i] = septets[i] as u16;
         i += 1;
     }
-}
-
-// Text to septets, of a text of which each unit is its own code.
-pub(crate) fn fill_septets(text: &[u16], out: &mut [u8]) -> Filled
-    requires { ⌜ AllOwn (now text) ⌝ }
-    ensures answer { λ r. ⌜ r ≡ septetsAnswers (now (text .entry)) (length (now (out .entry))) ⌝ }
-    ensures buffer { λ r. ⌜ now (out .exit) ≡ septetsLeaves (now (text .entry)) (now (out .entry)) ⌝ }
-{
-    let n = text.len();
-    if out.len() < n {
-        return Filled::Refused(Refusal::NoRoom);
-    }
-    copy_units(text, n, out);
-    Filled::Done(n)
 }
 
 // Septets to text, of septets of which each is its own unit.
