@@ -99,7 +99,7 @@ pub septets-injective : (t v : List ℕ) → Codable t → Codable v → septets
 septets-injective t v c d e = sym (text-septets t c) ∙ ap textOf e ∙ text-septets v d
 
 -- a unit takes two septets at most
-pub short : (l : Listed) → length (septetsFor l) ≤ 2
+short : (l : Listed) → length (septetsFor l) ≤ 2
 short Unlisted = omega arith
 short (Main code) = omega arith
 short (Extension code) = omega arith

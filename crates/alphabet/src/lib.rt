@@ -81,7 +81,7 @@ pub fn septets_in(text: &[u16]) -> Measured
 
 // Text to septets: how many it stored at the front of the lent buffer.
 // Refuses a text with an unlisted unit (6, the first one), then a buffer that is too short (7).
-// A refusal leaves the buffer as it came, a success touches only the written front.
+// A refusal leaves the buffer as it came, a success touches only the written front: a first pass judges and counts, a second one stores.
 pub fn text_to_septets(text: &[u16], out: &mut [u8]) -> Filled
     ensures answer { λ r. ⌜ r ≡ septetsAnswers (now (text .entry)) (length (now (out .entry))) ⌝ }
     ensures buffer { λ r. ⌜ now (out .exit) ≡ septetsLeaves (now (text .entry)) (now (out .entry)) ⌝ }

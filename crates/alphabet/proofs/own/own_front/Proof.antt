@@ -72,7 +72,7 @@ add-n-2 c = search needs
 odd-eight-units-requires-3 : tie.Need-odd-eight-units-requires-3 Inv-loop μ-loop
 odd-eight-units-requires-3 c κs = search needs
 
--- after the run of eight, if there was room for one: fewer than eight are left
+-- after a run of eight, if there was one more: the last eight reach to the end from here or from before
 fronts : (c : tie.Joined4 Inv-loop μ-loop)
     → (c .if4 .n ≤ length (c .before .before .before .before .before .args .text .now))
     × (length (c .before .before .before .before .before .args .text .now) ≤ c .if4 .n + 8)
