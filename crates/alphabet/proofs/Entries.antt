@@ -1,24 +1,26 @@
 -- The code's tables say what the printed tables say: one computed test a table, and the rule that it carries to each entry.
 -- Assumes nothing.
 use mathlib.Core.Path.{_≡_, refl, ap, _∙_, sym, subst}
-use mathlib.Core.Bool.{Bool, true, false, cond}
+use mathlib.Core.Bool.{Bool, true, false, cond, false≢true}
 use mathlib.Core.List.{List, [], _∷_}
 use Prim.{Unit}
 use Prim.Native.Nat.{ℕ, suc, _+_, _-_, _<_, _≤_}
-use native.Mathlib.Nat.{le-refl}
+use native.Mathlib.Nat.{le-refl, zero-add}
+use native.Mathlib.Decide.{decLe}
 use native.Mathlib.Omega.{arith}
 use lib.Dec.{T, eqb, ltb, eqb→eq}
-use lib.ListN.{length}
-use borrow.Author.Tests.{lt-ltb, le-ltb, ne-eqb}
-use Rattle.words.specs.Lists.{firstPlace}
+use lib.ListN.{length, List·getD-eq-default}
+use borrow.Author.Tests.{lt-ltb, le-ltb, ltb-false, ne-eqb}
+use Rattle.words.specs.Lists.{firstPlace, numbersFrom}
+use Rattle.words.proofs.Places.{numbers-length, numbers-at}
 use Rattle.words.proofs.Tests.{everyEntry, every-entry, everyBelow, every-below}
 use Rattle.alphabet.specs.declared.Listed.{Listed}
 use Rattle.alphabet.specs.declared.Listed.the-variants.{Unlisted, Main, Extension}
-use Rattle.alphabet.specs.Tables.{mainTable, extension, codes, units, among, beside}
+use Rattle.alphabet.specs.Tables.{escape, mainTable, extension, codes, units, among, beside}
 use Rattle.alphabet.specs.Writing.{listedAs}
-use Rattle.alphabet.specs.Reading.{afterEscape}
-use Rattle.alphabet.specs.Inner.{listing, RightFrom, shown, RightUnits}
-use Rattle.alphabet.proofs.Among.{among-not}
+use Rattle.alphabet.specs.Reading.{mainUnit, afterEscape}
+use Rattle.alphabet.specs.Inner.{listing, RightFrom, shown}
+use Rattle.alphabet.proofs.Among.{place, among-stands, among-not}
 
 -- two places of a unit are the same
 abbrev pub same : Listed → Listed → Bool
@@ -66,14 +68,6 @@ unfolding entryRight
 entries-right first n table t long =
     record { at = λ k h. same-is _ _ (every-entry (entryRight first) table t k (subst (λ (m : ℕ). k < m) (sym long) h)) }
 
-unfoldable pub unitRight : ℕ → ℕ → Bool
-unitRight code unit = eqb unit (shown code)
-
-pub units-right : (table : List ℕ) → T (everyEntry unitRight 0 table) → length table ≡ 0x80 → RightUnits table
-unfolding unitRight
-units-right table t long =
-    record { at = λ code h. eqb→eq _ _ (every-entry unitRight table t code (subst (λ (n : ℕ). code < n) (sym long) h)) }
-
 -- the units that the tables list lie below 0x100, among the Greek capitals, or are the euro sign
 unfoldable inside : ℕ → Bool
 inside u = cond (ltb u 0x100) true (cond (ltb u 0x393) false (cond (ltb u 0x3aa) true (eqb u 0x20ac)))
@@ -119,9 +113,44 @@ none-among : (ys : List ℕ) (x : ℕ) → NoneOf ys x Unit → among ys x ≡ f
 unfolding among
 none-among ys x h = le-ltb _ _ (subst (λ (n : ℕ). length ys ≤ n) (sym (none-place ys x Unit h .1)) (le-refl (length ys)))
 
-pub other-shown : (code : ℕ) → NoneOf (codes extension) code Unit → shown code ≡ afterEscape code
-unfolding afterEscape shown
-other-shown code h = sym (simp (none-among (codes extension) code h))
+-- each code of a table is below 80, so what is none of those numbers is no code, and reads as 0
+abbrev narrow : ℕ → Bool
+narrow code = ltb code 0x80
+
+main-narrow : T (everyEntry (λ k. narrow) 0 (codes mainTable))
+unfolding mainTable
+main-narrow = tt
+
+extension-narrow : T (everyEntry (λ k. narrow) 0 (codes extension))
+unfolding extension
+extension-narrow = tt
+
+module _ (code : ℕ) (none : NoneOf (numbersFrom 0 0x80) code Unit) where
+  wide : 0x80 ≤ code
+  wide =
+      elim (decLe 0x80 code) [
+        yes h ↦ h
+      | no h ↦
+            let l : code < 0x80 = omega (arith, h) in
+            let long = subst (λ (n : ℕ). code < n) (sym (numbers-length 0 0x80)) l in
+            absurd
+            (false≢true (sym (none-among (numbersFrom 0 0x80) code none) ∙ among-stands (numbersFrom 0 0x80) code code long (numbers-at 0 0x80 code l ∙ zero-add code)))
+      ]
+
+  no-main : mainUnit code ≡ 0
+  unfolding mainUnit beside among mainTable
+  no-main = List·getD-eq-default (units mainTable) 0 {n = place (codes mainTable) code} (ltb-false _ _ (absent narrow (codes mainTable) main-narrow code (le-ltb code 0x80 wide)))
+
+  no-escape : eqb code escape ≡ false
+  no-escape = ne-eqb code escape (λ e. omega (arith, e, wide))
+
+  pub no-shown : 0 ≡ shown code
+  unfolding shown
+  no-shown = sym (simp no-escape no-main)
+
+  pub no-escaped : 0 ≡ afterEscape code
+  unfolding afterEscape
+  no-escaped = sym (simp (absent narrow (codes extension) extension-narrow code (le-ltb code 0x80 wide), no-escape) no-main)
 
 -- the Greek capitals in the order of the code's match
 abbrev pub greekUnits : List ℕ

@@ -3,12 +3,12 @@
 --   listing k              == what an entry k of a reverse table says of its unit
 --   RightFrom first n t    == t has for each of the n units from first on what the printed tables list
 --   shown code             == the code's unit of the main table, and a space for the escape
---   RightUnits units       == units has at each code what is shown for it
+--   shownAs old code       == the same, or the code's unit in an old page
 --   Own u                  == the unit u is its own code, in an old page too
 --   OwnFrom s a b          == each unit of s from place a to place b is its own code
 --   AllOwn s               == each unit of s is its own code
 --   Encoding t s n i       == the first n septets of the array s are those of the first i units of the text t, which are all listed
---   readAs old septets     == the text of the septets, read as an old page or as the present alphabet
+--   escapesAt old s i      == whether an escape with a code after it stands at place i of s, as only the present alphabet has it
 --   firstRead old s i      == the unit that reading s from place i on gives first
 --   Stepped old s i u next == reading s from place i on gives the unit u first, and goes on at next
 use mathlib.Core.Path.{_≡_}
@@ -21,7 +21,7 @@ use Rattle.alphabet.specs.declared.Listed.{Listed}
 use Rattle.alphabet.specs.declared.Listed.the-variants.{Unlisted, Main, Extension}
 use Rattle.alphabet.specs.Tables.{escape, space}
 use Rattle.alphabet.specs.Writing.{listedAs, septetsOf, firstUnlisted}
-use Rattle.alphabet.specs.Reading.{mainUnit, oldUnit, textOf, oldTextOf}
+use Rattle.alphabet.specs.Reading.{mainUnit, oldUnit, readAs}
 
 -- below 80 a code of the main table, from there on a code after an escape, and FF for an unlisted unit
 unfoldable pub listing : ℕ → Listed
@@ -33,8 +33,8 @@ pub record RightFrom (first n : ℕ) (table : List ℕ) : Type 0 where
 unfoldable pub shown : ℕ → ℕ
 shown code = cond (eqb code escape) space (mainUnit code)
 
-pub record RightUnits (units : List ℕ) : Type 0 where
-  pub at : (code : ℕ) → code < 0x80 → getD units code 0 ≡ shown code
+unfoldable pub shownAs : Bool → ℕ → ℕ
+shownAs old code = cond old (oldUnit code) (shown code)
 
 pub record Own (u : ℕ) : Type 0 where
   pub below : u < 0x80
@@ -56,9 +56,8 @@ pub record Encoding (text septets : List ℕ) (n i : ℕ) : Type 0 where
   pub fits : n ≤ 184
   pub size : length septets ≡ 184
 
-unfoldable pub readAs : Bool → List ℕ → List ℕ
-readAs true septets = oldTextOf septets
-readAs false septets = textOf septets
+unfoldable pub escapesAt : Bool → List ℕ → ℕ → Bool
+escapesAt old septets i = cond old false (cond (eqb (getD septets i 0) escape) (ltb (i + 1) (length septets)) false)
 
 -- the first unit of what is left from place i on
 abbrev pub firstRead : Bool → List ℕ → ℕ → ℕ

@@ -4,7 +4,7 @@ ghost use lib.ListN.{length};
 ghost use Rattle.alphabet.specs.Writing.{listedAs, measured, septetsAnswers, septetsLeaves};
 ghost use Prim.Native.Nat.{_≤_};
 ghost use Rattle.alphabet.specs.Inner.{RightFrom, OwnFrom};
-ghost use Rattle.alphabet.specs.Reading.{textOf, oldTextOf, textAnswers, textLeaves};
+ghost use Rattle.alphabet.specs.Reading.{textOf, oldTextOf, readAs, textAnswers, textLeaves, showAnswers, showLeaves};
 use words::Filled;
 use words::Refusal;
 
@@ -115,7 +115,7 @@ pub fn septets_to_text(septets: &[u8], out: &mut [u16]) -> Filled
     ensures answer { λ r. ⌜ r ≡ textAnswers (now (septets .entry)) (textOf (now (septets .entry))) (length (now (out .entry))) ⌝ }
     ensures buffer { λ r. ⌜ now (out .exit) ≡ textLeaves (now (septets .entry)) (textOf (now (septets .entry))) (now (out .entry)) ⌝ }
 {
-    reading::read_text(septets, false, out)
+    reading::judge_text(septets, false, out)
 }
 
 // The septets of an old page to text, as septets_to_text, but 11 and 1B each read as a space and there is no extension.
@@ -123,5 +123,14 @@ pub fn old_page_to_text(septets: &[u8], out: &mut [u16]) -> Filled
     ensures answer { λ r. ⌜ r ≡ textAnswers (now (septets .entry)) (oldTextOf (now (septets .entry))) (length (now (out .entry))) ⌝ }
     ensures buffer { λ r. ⌜ now (out .exit) ≡ textLeaves (now (septets .entry)) (oldTextOf (now (septets .entry))) (now (out .entry)) ⌝ }
 {
-    reading::read_text(septets, true, out)
+    reading::judge_text(septets, true, out)
+}
+
+// Septets to text without that test: a septet of 128 or more is no code and reads as the unit 0000. `old` reads as an old page does.
+// Refuses a buffer that is too short (7), and then leaves it as it came.
+pub fn show(septets: &[u8], old: bool, out: &mut [u16]) -> Filled
+    ensures answer { λ r. ⌜ r ≡ showAnswers (readAs old (now (septets .entry))) (length (now (out .entry))) ⌝ }
+    ensures buffer { λ r. ⌜ now (out .exit) ≡ showLeaves (readAs old (now (septets .entry))) (now (out .entry)) ⌝ }
+{
+    reading::read_text(septets, old, out)
 }
