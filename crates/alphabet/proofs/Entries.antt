@@ -1,18 +1,17 @@
 -- The code's tables say what the printed tables say: one computed test a table, and the rule that it carries to each entry.
 -- Assumes nothing.
 use mathlib.Core.Path.{_≡_, refl, ap, _∙_, sym, subst}
-use mathlib.Core.Bool.{Bool, true, false, cond, false≢true}
+use mathlib.Core.Bool.{Bool, true, false, cond}
 use mathlib.Core.List.{List, [], _∷_}
 use Prim.{Unit}
 use Prim.Native.Nat.{ℕ, suc, _+_, _-_, _<_, _≤_}
-use native.Mathlib.Nat.{le-refl, zero-add}
+use native.Mathlib.Nat.{le-refl}
 use native.Mathlib.Decide.{decLe}
 use native.Mathlib.Omega.{arith}
 use lib.Dec.{T, eqb, ltb, eqb→eq}
 use lib.ListN.{length, List·getD-eq-default}
 use borrow.Author.Tests.{lt-ltb, le-ltb, ltb-false, ne-eqb}
 use Rattle.words.specs.Lists.{firstPlace, numbersFrom}
-use Rattle.words.proofs.Places.{numbers-length, numbers-at}
 use Rattle.words.proofs.Tests.{everyEntry, every-entry, everyBelow, every-below}
 use Rattle.alphabet.specs.declared.Listed.{Listed}
 use Rattle.alphabet.specs.declared.Listed.the-variants.{Unlisted, Main, Extension}
@@ -20,7 +19,7 @@ use Rattle.alphabet.specs.Tables.{escape, mainTable, extension, codes, u
 use Rattle.alphabet.specs.Writing.{listedAs}
 use Rattle.alphabet.specs.Reading.{mainUnit, afterEscape}
 use Rattle.alphabet.specs.Inner.{listing, RightFrom, shown}
-use Rattle.alphabet.proofs.Among.{place, among-stands, among-not}
+use Rattle.alphabet.proofs.Among.{place, among-not}
 
 -- two places of a unit are the same
 abbrev pub same : Listed → Listed → Bool
@@ -113,7 +112,16 @@ none-among : (ys : List ℕ) (x : ℕ) → NoneOf ys x Unit → among ys x ≡ f
 unfolding among
 none-among ys x h = le-ltb _ _ (subst (λ (n : ℕ). length ys ≤ n) (sym (none-place ys x Unit h .1)) (le-refl (length ys)))
 
--- each code of a table is below 80, so what is none of those numbers is no code, and reads as 0
+-- the default of a match that has an arm for each code
+pub rest-wide : (code : ℕ) → NoneOf (numbersFrom 0 0x80) code Unit → 0x80 ≤ code
+unfolding among firstPlace numbersFrom
+rest-wide code none =
+    elim (decLe 0x80 code) [
+      | yes h ↦ h
+      | no h ↦ absurd (subst T (none-among (numbersFrom 0 0x80) code none) (every-below (among (numbersFrom 0 0x80)) 0x80 tt code (omega (arith, h))))
+    ]
+
+-- each code of a table is below 80
 abbrev narrow : ℕ → Bool
 narrow code = ltb code 0x80
 
@@ -125,32 +133,24 @@ extension-narrow : T (everyEntry (λ k. narrow) 0 (codes extension))
 unfolding extension
 extension-narrow = tt
 
-module _ (code : ℕ) (none : NoneOf (numbersFrom 0 0x80) code Unit) where
-  wide : 0x80 ≤ code
-  wide =
-      elim (decLe 0x80 code) [
-        yes h ↦ h
-      | no h ↦
-            let l : code < 0x80 = omega (arith, h) in
-            let long = subst (λ (n : ℕ). code < n) (sym (numbers-length 0 0x80)) l in
-            absurd
-            (false≢true (sym (none-among (numbersFrom 0 0x80) code none) ∙ among-stands (numbersFrom 0 0x80) code code long (numbers-at 0 0x80 code l ∙ zero-add code)))
-      ]
-
-  no-main : mainUnit code ≡ 0
+-- so what is not reads as 0
+module _ (code : ℕ) (wide : 0x80 ≤ code) where
+  main-wide : mainUnit code ≡ 0
   unfolding mainUnit beside among mainTable
-  no-main = List·getD-eq-default (units mainTable) 0 {n = place (codes mainTable) code} (ltb-false _ _ (absent narrow (codes mainTable) main-narrow code (le-ltb code 0x80 wide)))
+  main-wide =
+      List·getD-eq-default (units mainTable) 0 {n = place (codes mainTable) code}
+      (ltb-false _ _ (absent narrow (codes mainTable) main-narrow code (le-ltb code 0x80 wide)))
 
-  no-escape : eqb code escape ≡ false
-  no-escape = ne-eqb code escape (λ e. omega (arith, e, wide))
+  escape-wide : eqb code escape ≡ false
+  escape-wide = ne-eqb code escape (λ e. omega (arith, e, wide))
 
-  pub no-shown : 0 ≡ shown code
+  pub shown-wide : 0 ≡ shown code
   unfolding shown
-  no-shown = sym (simp no-escape no-main)
+  shown-wide = sym (simp escape-wide main-wide)
 
-  pub no-escaped : 0 ≡ afterEscape code
+  pub escaped-wide : 0 ≡ afterEscape code
   unfolding afterEscape
-  no-escaped = sym (simp (absent narrow (codes extension) extension-narrow code (le-ltb code 0x80 wide), no-escape) no-main)
+  escaped-wide = sym (simp (absent narrow (codes extension) extension-narrow code (le-ltb code 0x80 wide), escape-wide) main-wide)
 
 -- the Greek capitals in the order of the code's match
 abbrev pub greekUnits : List ℕ
