@@ -1,7 +1,7 @@
 -- Document 01, "The alphabet" and "Refusal numbers and their order": septets to text, from left to right. Septets to text alone: 9, 7.
--- Own rule: an escape with nothing after it is a space; where septets are shown without that test (7 alone), one of 128 or more is no code and
--- reads as the unit 0000. Cited by septets_to_text, old_page_to_text and show. Assumes nothing.
---   mainUnit code                 == the code's unit of the main table, and 0 for what is no code of it
+-- Own rule: an escape with nothing after it is a space; show refuses with 7 alone, and a septet of 128 or more is no code and reads there as 0000.
+-- Cited by septets_to_text, old_page_to_text and show. Assumes nothing.
+--   mainUnit code                 == the code's unit of the main table, and 0 for a number that it does not list
 --   afterEscape code              == the unit of an escape and that code
 --   textOf septets                == the text of the septets
 --   textEscaped septets           == the text of an escape and the septets after it
@@ -12,8 +12,8 @@
 --   textRules septets text room   == the refusals, where the septets read as the text and the lent buffer has that much room
 --   textAnswers septets text room == what a call answers that reads the septets as the text
 --   textLeaves septets text out   == what it leaves in the lent buffer
---   showRules text room           == the refusals where the septets are not judged
---   showAnswers text room         == what show answers for septets that read as the text
+--   showRules text room           == the refusals of show, where the septets read as the text
+--   showAnswers text room         == what show answers
 --   showLeaves text out           == what it leaves in the lent buffer
 use Prim.Native.Nat.{ℕ}
 use mathlib.Core.Bool.{Bool, true, false, cond}

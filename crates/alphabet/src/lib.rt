@@ -126,7 +126,7 @@ pub fn old_page_to_text(septets: &[u8], out: &mut [u16]) -> Filled
     reading::judge_text(septets, true, out)
 }
 
-// Septets to text without that test: a septet of 128 or more is no code and reads as the unit 0000. `old` reads as an old page does.
+// Septets to text without the test for 128 or more: such a septet is no code and reads as the unit 0000. `old` reads as an old page does.
 // Refuses a buffer that is too short (7), and then leaves it as it came.
 pub fn show(septets: &[u8], old: bool, out: &mut [u16]) -> Filled
     ensures answer { λ r. ⌜ r ≡ showAnswers (readAs old (now (septets .entry))) (length (now (out .entry))) ⌝ }
