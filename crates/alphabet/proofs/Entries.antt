@@ -9,17 +9,18 @@ use Prim.Native.Nat.{ℕ, zero, suc, _+_, _-_, _<_, _≤_}
 use native.Mathlib.Nat.{le-refl, eq-or-lt-of-le}
 use native.Mathlib.Omega.{arith}
 use lib.Dec.{T, eqb, ltb, eqb→eq}
-use lib.ListN.{length}
-use borrow.Author.Tests.{lt-ltb, le-ltb, ne-eqb}
-use Rattle.words.specs.Lists.{firstPlace}
-use Rattle.words.proofs.Tests.{everyEntry, every-entry}
+use lib.ListN.{length, List·getD-eq-default}
+use borrow.Author.Tests.{lt-ltb, le-ltb, ne-eqb, ltb-false}
+use Rattle.words.specs.Lists.{firstPlace, numbersFrom}
+use Rattle.words.proofs.Tests.{everyEntry, every-entry, every-below}
 use Rattle.alphabet.specs.declared.Listed.{Listed}
 use Rattle.alphabet.specs.declared.Listed.the-variants.{Unlisted, Main, Extension}
-use Rattle.alphabet.specs.Tables.{mainTable, extension, codes, units, among}
+use Rattle.alphabet.specs.Tables.{mainTable, extension, codes, units, among, escape, beside}
 use Rattle.alphabet.specs.Writing.{listedAs, isUnlisted}
-use Rattle.alphabet.specs.Reading.{afterEscape}
-use Rattle.alphabet.specs.Inner.{listing, shown, RightUnits}
-use Rattle.alphabet.proofs.Among.{among-not}
+use Rattle.alphabet.specs.Reading.{afterEscape, mainUnit}
+use Rattle.alphabet.specs.Inner.{listing, shown}
+use Rattle.alphabet.proofs.Among.{among-not, place}
+use native.Mathlib.Decide.{decLe}
 
 -- two places of a unit are the same
 abbrev pub same : Listed → Listed → Bool
@@ -57,14 +58,6 @@ module _ (k : ℕ) (l : Listed) (e : listing k ≡ l) where
   pub entry-none : 0xff ≤ k → Unlisted ≡ l
   unfolding listing
   entry-none h = let high : 0x80 ≤ k = omega arith in sym (simp (le-ltb k 0x80 high, le-ltb k 0xff h)) ∙ e
-
-unfoldable pub unitRight : ℕ → ℕ → Bool
-unitRight code unit = eqb unit (shown code)
-
-pub units-right : (table : List ℕ) → T (everyEntry unitRight 0 table) → length table ≡ 0x80 → RightUnits table
-unfolding unitRight
-units-right table t long =
-    record { at = λ code h. eqb→eq _ _ (every-entry unitRight table t code (subst (λ (n : ℕ). code < n) (sym long) h)) }
 
 -- the units that the tables list lie below 0x100, among the Greek capitals, or are the euro sign
 unfoldable inside : ℕ → Bool
@@ -111,9 +104,45 @@ none-among : (ys : List ℕ) (x : ℕ) → NoneOf ys x Unit → among ys x ≡ f
 unfolding among
 none-among ys x h = le-ltb _ _ (subst (λ (n : ℕ). length ys ≤ n) (sym (none-place ys x Unit h .1)) (le-refl (length ys)))
 
-pub other-shown : (code : ℕ) → NoneOf (codes extension) code Unit → shown code ≡ afterEscape code
-unfolding afterEscape shown
-other-shown code h = sym (simp (none-among (codes extension) code h))
+-- the default of a match that has an arm for each code
+pub rest-wide : (code : ℕ) → NoneOf (numbersFrom 0 0x80) code Unit → 0x80 ≤ code
+unfolding among firstPlace numbersFrom
+rest-wide code none =
+    elim (decLe 0x80 code) [
+      | yes h ↦ h
+      | no h ↦ absurd (subst T (none-among (numbersFrom 0 0x80) code none) (every-below (among (numbersFrom 0 0x80)) 0x80 tt code (omega (arith, h))))
+    ]
+
+-- each code of a table is below 80
+abbrev narrow : ℕ → Bool
+narrow code = ltb code 0x80
+
+main-narrow : T (everyEntry (λ k. narrow) 0 (codes mainTable))
+unfolding mainTable
+main-narrow = tt
+
+extension-narrow : T (everyEntry (λ k. narrow) 0 (codes extension))
+unfolding extension
+extension-narrow = tt
+
+-- so what is not reads as 0
+module _ (code : ℕ) (wide : 0x80 ≤ code) where
+  main-wide : mainUnit code ≡ 0
+  unfolding mainUnit beside among mainTable
+  main-wide =
+      List·getD-eq-default (units mainTable) 0 {n = place (codes mainTable) code}
+      (ltb-false _ _ (absent narrow (codes mainTable) main-narrow code (le-ltb code 0x80 wide)))
+
+  escape-wide : eqb code escape ≡ false
+  escape-wide = ne-eqb code escape (λ e. omega (arith, e, wide))
+
+  pub shown-wide : 0 ≡ shown code
+  unfolding shown
+  shown-wide = sym (simp escape-wide main-wide)
+
+  pub escaped-wide : 0 ≡ afterEscape code
+  unfolding afterEscape
+  escaped-wide = sym (simp (absent narrow (codes extension) extension-narrow code (le-ltb code 0x80 wide), escape-wide) main-wide)
 
 -- the units that the tables list, of the n units from one on
 abbrev pub listedFrom : ℕ → ℕ → List ℕ

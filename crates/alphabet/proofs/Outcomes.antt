@@ -15,6 +15,8 @@ use Rattle.alphabet.proofs.septets_to_text.Kinds as septets-to-text-kin
 use Rattle.alphabet.proofs.septets_to_text.Reads as septets-to-text
 use Rattle.alphabet.proofs.old_page_to_text.Kinds as old-page-to-text-kinds
 use Rattle.alphabet.proofs.old_page_to_text.Reads as old-page-to-text
+use Rattle.alphabet.proofs.show.Kinds as show-kinds
+use Rattle.alphabet.proofs.show.Reads as show
 
 pub find-unique : OneAnswer find-kinds.ps find-kinds.r find.Post
 find-unique κs a x y u v p q = p ∙ sym q
@@ -45,3 +47,9 @@ old-page-to-text-unique κs a x y u v p q = p .0 ∙ sym (q .0)
 
 pub old-page-to-text-buffer-unique : OneBuffer old-page-to-text-kinds.ps old-page-to-text-kinds.r (λ κs u. now (u .1 .0)) old-page-to-text.Post
 old-page-to-text-buffer-unique κs a x y u v p q = p .1 ∙ sym (q .1)
+
+pub show-unique : OneAnswer show-kinds.ps show-kinds.r show.Post
+show-unique κs a x y u v p q = p .0 ∙ sym (q .0)
+
+pub show-buffer-unique : OneBuffer show-kinds.ps show-kinds.r (λ κs u. now (u .1 .1 .0)) show.Post
+show-buffer-unique κs a x y u v p q = p .1 ∙ sym (q .1)

@@ -6,19 +6,18 @@ use mathlib.Core.List.{List, [], _∷_, map}
 use Prim.Native.Nat.{ℕ, suc, _+_, _-_, _<_, _≤_}
 use native.Mathlib.Omega.{arith}
 use lib.Bits.{bitOr, or-add-and, and-le-l, and-le-r}
-use lib.Dec.{T, eqb, ltb, leb, eqb→eq}
-use lib.ListN.{length, getD}
+use lib.Dec.{T, eqb, ltb, eqb→eq}
+use lib.ListN.{getD}
 use native.Mathlib.Decide.{decLe}
 use borrow.Author.Count.{below-more}
-use borrow.Author.Tests.{lt-leb, le-ltb}
+use borrow.Author.Tests.{le-ltb}
 use Rattle.words.specs.Lists.{firstPlace}
-use Rattle.words.proofs.Places.{place-none}
 use Rattle.words.proofs.Tests.{both, both-left, both-right, everyBelow, every-below}
 use Rattle.alphabet.specs.declared.Listed.the-variants.{Main}
 use Rattle.alphabet.specs.Tables.{escape, mainTable, extension, among, beside}
 use Rattle.alphabet.specs.Writing.{listedAs, septetsOf}
-use Rattle.alphabet.specs.Reading.{mainUnit, oldUnit, textOf, firstWide}
-use Rattle.alphabet.specs.Inner.{Own, OwnFrom, AllOwn, readAs}
+use Rattle.alphabet.specs.Reading.{mainUnit, oldUnit, textOf, readAs}
+use Rattle.alphabet.specs.Inner.{Own, OwnFrom, AllOwn}
 use Rattle.alphabet.proofs.Entries.{same, same-is}
 use Rattle.alphabet.proofs.Rows.{differ}
 use Rattle.alphabet.proofs.Septets.{text-plain}
@@ -95,11 +94,6 @@ own-septets [] h = refl
 own-septets (u ∷ t) h = rw (h 0 (omega arith) .written) (ap (λ (s : List ℕ). u ∷ s) (own-septets t (λ k l. h (suc k) (omega arith))))
 
 -- and such septets are their own text
-pub own-narrow : (s : List ℕ) → AllOwn s → ltb (firstWide s) (length s) ≡ false
-own-narrow s h =
-    let none : firstWide s ≡ length s = place-none (λ x. leb 128 x) s (λ k l. lt-leb 128 (getD s k 0) (h k l .below)) in
-    le-ltb (firstWide s) (length s) (omega (arith, none))
-
 own-text : (s : List ℕ) → AllOwn s → textOf s ≡ s
 unfolding textOf
 own-text [] h = refl

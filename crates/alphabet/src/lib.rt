@@ -2,7 +2,7 @@
 ghost use mathlib.Core.Path.{_≡_};
 ghost use lib.ListN.{length};
 ghost use Rattle.alphabet.specs.Writing.{listedAs, encodedAs, encodedLeaves, measured, septetsAnswers, septetsLeaves};
-ghost use Rattle.alphabet.specs.Reading.{textOf, oldTextOf, textAnswers, textLeaves};
+ghost use Rattle.alphabet.specs.Reading.{textOf, oldTextOf, textAnswers, textLeaves, readAs, showAnswers, showLeaves};
 use words::Filled;
 use words::Refusal;
 
@@ -105,7 +105,7 @@ pub fn septets_to_text(septets: &[u8], out: &mut [u16]) -> Filled
     ensures answer { λ r. ⌜ r ≡ textAnswers (now (septets .entry)) (textOf (now (septets .entry))) (length (now (out .entry))) ⌝ }
     ensures buffer { λ r. ⌜ now (out .exit) ≡ textLeaves (now (septets .entry)) (textOf (now (septets .entry))) (now (out .entry)) ⌝ }
 {
-    reading::read_text(septets, false, out)
+    reading::judge_text(septets, false, out)
 }
 
 // The septets of an old page to text, as septets_to_text, but 11 and 1B each read as a space and there is no extension.
@@ -113,5 +113,14 @@ pub fn old_page_to_text(septets: &[u8], out: &mut [u16]) -> Filled
     ensures answer { λ r. ⌜ r ≡ textAnswers (now (septets .entry)) (oldTextOf (now (septets .entry))) (length (now (out .entry))) ⌝ }
     ensures buffer { λ r. ⌜ now (out .exit) ≡ textLeaves (now (septets .entry)) (oldTextOf (now (septets .entry))) (now (out .entry)) ⌝ }
 {
-    reading::read_text(septets, true, out)
+    reading::judge_text(septets, true, out)
+}
+
+// Septets to text without the test for 128 or more: such a septet is no code and reads as the unit 0000. `old` reads as an old page does.
+// Refuses a buffer that is too short (7), and then leaves it as it came.
+pub fn show(septets: &[u8], old: bool, out: &mut [u16]) -> Filled
+    ensures answer { λ r. ⌜ r ≡ showAnswers (readAs old (now (septets .entry))) (length (now (out .entry))) ⌝ }
+    ensures buffer { λ r. ⌜ now (out .exit) ≡ showLeaves (readAs old (now (septets .entry))) (now (out .entry)) ⌝ }
+{
+    reading::read_text(septets, old, out)
 }

@@ -1,13 +1,13 @@
 // Units that are their own codes, as most letters, digits and signs are: a test without branches or tables, and plain copies.
 // A loop over the test vectorises, eight units or sixteen septets at a time.
 ghost use mathlib.Core.Path.{_≡_};
-ghost use mathlib.Core.Bool.{cond};
+ghost use mathlib.Core.Bool.{true, cond};
 ghost use Prim.Native.Nat.{_+_, _-_, _≤_};
 ghost use lib.Dec.{eqb};
 ghost use lib.ListN.{length, take};
 ghost use Rattle.words.specs.Lists.{laid};
-ghost use Rattle.alphabet.specs.Reading.{textAnswers, textLeaves};
-ghost use Rattle.alphabet.specs.Inner.{Own, OwnFrom, AllOwn, readAs};
+ghost use Rattle.alphabet.specs.Reading.{readAs, showAnswers, showLeaves};
+ghost use Rattle.alphabet.specs.Inner.{Own, OwnFrom, AllOwn};
 use words::Filled;
 use words::Refusal;
 
@@ -112,17 +112,51 @@ pub(crate) fn own_front(text: &[u16]) -> usize
     len
 }
 
-// 0 only for septets of which each is its own unit.
-pub(crate) fn odd_septets(septets: &[u8]) -> u8
-    ensures { λ r. ⌜ (r ≡ 0 → AllOwn (now (septets .entry))) ⌝ }
+// 0 only for septets of which each is its own unit, from one place to another.
+fn odd_septets(septets: &[u8], from: usize, to: usize) -> u8
+    requires { ⌜ (from ≤ to) × (to ≤ length (now septets)) ⌝ }
+    ensures { λ r. ⌜ (r ≡ 0 → OwnFrom (now (septets .entry)) from to) ⌝ }
 {
     let mut bits: u8 = 0;
-    let mut i: usize = 0;
-    while i < septets.len() {
+    let mut i: usize = from;
+    while i < to {
         bits = bits | odd_septet(septets[i]);
         i += 1;
     }
     bits
+}
+
+// The same of eight septets: of a run of known length the compiler makes a few instructions.
+fn odd_eight(septets: &[u8], n: usize) -> u8
+    requires { ⌜ n + 8 ≤ length (now septets) ⌝ }
+    ensures { λ r. ⌜ (r ≡ 0 → OwnFrom (now (septets .entry)) n (n + 8)) ⌝ }
+{
+    odd_septets(septets, n, n + 8)
+}
+
+// True only for septets of which each is its own unit, and false for fewer than eight. 32 at a time, then eight, the last eight over again
+// where they overlap: a loop over fewer would go septet by septet.
+pub(crate) fn all_own(septets: &[u8]) -> bool
+    ensures { λ r. ⌜ (r ≡ true → AllOwn (now (septets .entry))) ⌝ }
+{
+    let len = septets.len();
+    if len < 8 {
+        return false;
+    }
+    let mut n: usize = 0;
+    while 32 <= len - n {
+        if odd_septets(septets, n, n + 32) != 0 {
+            return false;
+        }
+        n += 32;
+    }
+    while 8 <= len - n {
+        if odd_eight(septets, n) != 0 {
+            return false;
+        }
+        n += 8;
+    }
+    odd_eight(septets, len - 8) == 0
 }
 
 // Lays the first n units over the front of the buffer as septets.
@@ -154,8 +188,8 @@ fn copy_septets(septets: &[u8], out: &mut [u16])
 // Septets to text, of septets of which each is its own unit.
 pub(crate) fn fill_text(septets: &[u8], old: bool, out: &mut [u16]) -> Filled
     requires { ⌜ AllOwn (now septets) ⌝ }
-    ensures answer { λ r. ⌜ r ≡ textAnswers (now (septets .entry)) (readAs old (now (septets .entry))) (length (now (out .entry))) ⌝ }
-    ensures buffer { λ r. ⌜ now (out .exit) ≡ textLeaves (now (septets .entry)) (readAs old (now (septets .entry))) (now (out .entry)) ⌝ }
+    ensures answer { λ r. ⌜ r ≡ showAnswers (readAs old (now (septets .entry))) (length (now (out .entry))) ⌝ }
+    ensures buffer { λ r. ⌜ now (out .exit) ≡ showLeaves (readAs old (now (septets .entry))) (now (out .entry)) ⌝ }
 {
     let n = septets.len();
     if out.len() < n {
