@@ -1,65 +1,99 @@
--- Text to septets in one pass into an array: what the loop knows at each turn.
+-- Text to septets, one unit after the other into a buffer that may be too short: what the loop knows at each turn, and what its end tells.
 -- Assumes nothing.
 use mathlib.Core.Path.{_≡_, refl, ap, ap₂, _∙_, sym, subst}
 use mathlib.Core.Bool.{false}
-use mathlib.Core.List.{List, [], _∷_, _++_, append-assoc, append-nil}
-use Prim.Native.Nat.{ℕ, zero, suc, _+_, _-_, _<_, _≤_}
-use native.Mathlib.Nat.{le-of-suc-le-suc, not-suc-le-zero}
+use mathlib.Core.List.{List, [], _∷_, _++_, append-assoc}
+use Prim.Native.Nat.{ℕ, zero, suc, _+_, _-_, _*_, _<_, _≤_}
 use native.Mathlib.Numerals.{add-one}
 use native.Mathlib.Omega.{arith}
-use lib.ListN.{length, getD, take, drop, set, length-set}
-use lib.Dec.{ltb}
-use lib.Seq.{take-suc-set, length-take-le, take-at}
-use borrow.Author.Tests.{lt-ltb, le-ltb}
+use lib.ListN.{length, getD, take, drop, set, length-append, length-take, take-append-drop}
+use lib.Seq.{drop-cons, take-suc, take-all, take-add, take-at, take-append-le, set-at, length-take-le, getD-take, drop-append-add, drop-drop}
 use Rattle.words.specs.Lists.{laid}
 use Rattle.words.proofs.Laid.{laid-length}
-use Rattle.words.proofs.Places.{Passed, passed-none, passed-more, passed-here, passed-over}
+use Rattle.words.proofs.Places.{Passed, passed-none, passed-more, place-most}
 use Rattle.alphabet.specs.declared.Listed.{Listed}
-use Rattle.alphabet.specs.declared.Listed.the-variants.{Unlisted, Main, Extension}
-use Rattle.alphabet.specs.declared.Measured.the-variants.{Stopped}
+use Rattle.alphabet.specs.declared.Listed.the-variants.{Main, Extension}
+use Rattle.alphabet.specs.declared.Encoded.{Encoded}
 use Rattle.alphabet.specs.Tables.{escape}
-use Rattle.alphabet.specs.Writing.{listedAs, isUnlisted, septetsFor, septetsOf, firstUnlisted, measured}
-use Rattle.alphabet.specs.Inner.{Own, OwnFrom, Encoding}
-use Rattle.alphabet.proofs.Units.{septets-at, septets-over}
+use Rattle.alphabet.specs.Writing.{listedAs, isUnlisted, septetsFor, septetsOf, firstUnlisted, listedFront, encodedAs, encodedLeaves}
+use Rattle.alphabet.specs.Inner.{Own, OwnFrom}
+use Rattle.alphabet.proofs.OwnCodes.{own-septets}
+use Rattle.alphabet.proofs.Theorems.{Codable, codable-front, septets-append, septets-last}
 
--- the next septet is stored
-next-stored : (s rest whole : List ℕ) (n v : ℕ) → n < length s → take n s ++ (v ∷ rest) ≡ whole → take (n + 1) (set s n v) ++ rest ≡ whole
-next-stored s rest whole n v h e = rw add-one (ap (λ (x : List ℕ). x ++ rest) (take-suc-set s n v h) ∙ append-assoc (take n s) (v ∷ []) rest ∙ e)
+-- the buffer with the n elements of a list at its front, as many of them as there is room for
+pub record Fits (xs start : List ℕ) (n : ℕ) (out : List ℕ) : Type 0 where
+  pub count : n ≡ length xs
+  pub stored : out ≡ laid (take (length start) xs) start
+
+pub fits-long : {xs start out : List ℕ} {n : ℕ} → Fits xs start n out → length out ≡ length start
+fits-long {xs} {start} {out} {n} f = ap length (f .stored) ∙ laid-length (take (length start) xs) start (omega (arith, length-take (length start) xs))
+
+-- one element more is stored where there is room for it, and dropped where there is none
+module _ {xs start out : List ℕ} {n : ℕ} (v : ℕ) (f : Fits xs start n out) where
+  longer : n + 1 ≡ length (xs ++ v ∷ [])
+  longer = omega (arith, length-append xs (v ∷ []), f .count)
+
+  pub fits-stored : {s : List ℕ} → n < length start → s ≡ set out n v → Fits (xs ++ v ∷ []) start (n + 1) s
+  unfolding laid
+  fits-stored room e =
+      record {
+        count = longer;
+        stored =
+            e
+            ∙ ap₂ (λ (s : List ℕ) (k : ℕ). set s k v) (f .stored) (f .count)
+            ∙ ap (λ (s : List ℕ). set (s ++ drop (length s) start) (length xs) v) (take-all (length start) xs (omega (arith, f .count)))
+            ∙ ap (λ (s : List ℕ). set (xs ++ s) (length xs) v) (drop-cons start (length xs) 0 (omega (arith, f .count)))
+            ∙ set-at xs (getD start (length xs) 0) (drop (suc (length xs)) start) v (length xs) refl
+            ∙ sym (append-assoc xs (v ∷ []) (drop (suc (length xs)) start))
+            ∙ ap (λ (k : ℕ). (xs ++ v ∷ []) ++ drop k start) (sym (length-append xs (v ∷ []) ∙ add-one (length xs)))
+            ∙ sym (ap (λ (s : List ℕ). s ++ drop (length s) start) (take-all (length start) (xs ++ v ∷ []) (omega (arith, longer))));
+      }
+
+  pub fits-dropped : {s : List ℕ} → length start ≤ n → s ≡ out → Fits (xs ++ v ∷ []) start (n + 1) s
+  fits-dropped full e = record { count = longer; stored = e ∙ f .stored ∙ ap (λ (s : List ℕ). laid s start) (sym (take-append-le (length start) xs (v ∷ []) (omega (arith, f .count)))) }
+
+-- what the loop knows: the first i units of the text are listed, and their n septets are in the buffer as far as they fit
+pub record Encoding (text start out : List ℕ) (n i : ℕ) : Type 0 where
+  pub within : i ≤ length text
+  pub most : n ≤ 2 * i
+  pub listed : Passed (λ unit. isUnlisted (listedAs unit)) text i
+  pub fits : Fits (septetsOf (take i text)) start n out
+  pub long : length out ≡ length start
 
 -- a unit that is listed so is passed
 listed-more : (t : List ℕ) (i : ℕ) (l : Listed) → Passed (λ unit. isUnlisted (listedAs unit)) t i → i < length t → l ≡ listedAs (getD t i 0) → isUnlisted l ≡ false
     → Passed (λ unit. isUnlisted (listedAs unit)) t (i + 1)
 listed-more t i l p h e listed = passed-more (λ unit. isUnlisted (listedAs unit)) t i p h (ap isUnlisted (sym e) ∙ listed)
 
-module _ {t s : List ℕ} {n i : ℕ} (e : Encoding t s n i) (h : i < length t) (room : n ≤ 182) where
-  -- a unit of one septet
-  pub encode-main : (code : ℕ) → Main code ≡ listedAs (getD t i 0) → Encoding t (set s n code) (n + 1) (i + 1)
-  encode-main code l =
-      let whole : take n s ++ (code ∷ septetsOf (drop (i + 1) t)) ≡ septetsOf t = ap (λ (x : List ℕ). take n s ++ x) (sym (septets-at t i (Main code) h l)) ∙ e .stored in
+-- its septets come after those of the units before it
+septets-next : (t : List ℕ) (i : ℕ) (l : Listed) → i < length t → l ≡ listedAs (getD t i 0) → septetsOf (take (i + 1) t) ≡ septetsOf (take i t) ++ septetsFor l
+septets-next t i l h e =
+    ap (λ (k : ℕ). septetsOf (take k t)) (add-one i)
+    ∙ ap septetsOf (take-suc t i 0 h)
+    ∙ septets-last (take i t) (getD t i 0)
+    ∙ ap (λ (m : Listed). septetsOf (take i t) ++ septetsFor m) (sym e)
+
+-- a turn over a unit that is listed
+module _ {t start out : List ℕ} {n i : ℕ} (e : Encoding t start out n i) (h : i < length t) where
+  turn : {s : List ℕ} {m : ℕ} (l : Listed) → l ≡ listedAs (getD t i 0) → isUnlisted l ≡ false → m ≤ n + 2 → Fits (septetsOf (take i t) ++ septetsFor l) start m s → Encoding t start s m (i + 1)
+  turn {s} {m} l p listed few f =
       record {
         within = omega arith;
-        listed = listed-more t i (Main code) (e .listed) h l refl;
-        stored = next-stored s (septetsOf (drop (i + 1) t)) (septetsOf t) n code (omega (arith, e .size)) whole;
-        fits = omega arith;
-        size = length-set s n code ∙ e .size;
+        most = omega (arith, e .most);
+        listed = listed-more t i l (e .listed) h p listed;
+        fits = subst (λ (xs : List ℕ). Fits xs start m s) (sym (septets-next t i l h p)) f;
+        long = fits-long f;
       }
 
-  -- a unit of an escape and a septet
-  pub encode-extension : (code : ℕ) → Extension code ≡ listedAs (getD t i 0) → Encoding t (set (set s n escape) (n + 1) code) (n + 1 + 1) (i + 1)
-  encode-extension code l =
-      let whole : take n s ++ (escape ∷ code ∷ septetsOf (drop (i + 1) t)) ≡ septetsOf t = ap (λ (x : List ℕ). take n s ++ x) (sym (septets-at t i (Extension code) h l)) ∙ e .stored in
-      let one : take (n + 1) (set s n escape) ++ (code ∷ septetsOf (drop (i + 1) t)) ≡ septetsOf t = next-stored s (code ∷ septetsOf (drop (i + 1) t)) (septetsOf t) n escape (omega (arith, e .size)) whole in
-      record {
-        within = omega arith;
-        listed = listed-more t i (Extension code) (e .listed) h l refl;
-        stored = next-stored (set s n escape) (septetsOf (drop (i + 1) t)) (septetsOf t) (n + 1) code (omega (arith, e .size, length-set s n escape)) one;
-        fits = omega arith;
-        size = length-set (set s n escape) (n + 1) code ∙ length-set s n escape ∙ e .size;
-      }
+  -- of one septet
+  pub turn-main : {s : List ℕ} {m : ℕ} (code : ℕ) → Main code ≡ listedAs (getD t i 0) → m ≡ n + 1 → Fits (septetsOf (take i t) ++ code ∷ []) start (n + 1) s → Encoding t start s m (i + 1)
+  turn-main code p q f = turn (Main code) p refl (omega (arith, q)) (record { count = q ∙ f .count; stored = f .stored })
 
--- the same at values that are equal, as where branches meet
-pub encoding-moved : {t s s′ : List ℕ} {n n′ i : ℕ} → Encoding t s n i → n′ ≡ n → s′ ≡ s → Encoding t s′ n′ i
-encoding-moved {t} {s} {s′} {n} {n′} {i} e p q = subst (λ (x : ℕ). Encoding t s′ x i) (sym p) (subst (λ (x : List ℕ). Encoding t x n i) (sym q) e)
+  -- of an escape and a septet
+  pub turn-extension : {s : List ℕ} {m : ℕ} (code : ℕ) → Extension code ≡ listedAs (getD t i 0) → m ≡ n + 1 + 1 → Fits ((septetsOf (take i t) ++ escape ∷ []) ++ code ∷ []) start (n + 1 + 1) s → Encoding t start s m (i + 1)
+  turn-extension {s} {m} code p q f =
+      turn (Extension code) p refl (omega (arith, q))
+      (subst (λ (xs : List ℕ). Fits xs start m s) (append-assoc (septetsOf (take i t)) (escape ∷ []) (code ∷ [])) (record { count = q ∙ f .count; stored = f .stored }))
 
 -- units that are their own codes are all listed, and their septets are those units
 own-passed : (t : List ℕ) (n : ℕ) → n ≤ length t → OwnFrom t 0 n → Passed (λ unit. isUnlisted (listedAs unit)) t n
@@ -68,41 +102,103 @@ own-passed t (suc n) h own =
     subst (λ (k : ℕ). Passed (λ unit. isUnlisted (listedAs unit)) t k) (add-one n)
     (listed-more t n (Main (getD t n 0)) (own-passed t n (omega arith) (λ k l. own k (omega arith))) (omega arith) (sym (own n (omega arith) (omega arith) .written)) refl)
 
-own-stored : (t : List ℕ) (n : ℕ) → n ≤ length t → OwnFrom t 0 n → take n t ++ septetsOf (drop n t) ≡ septetsOf t
-unfolding septetsOf
-own-stored t zero h own = refl
-own-stored [] (suc n) h own = absurd (not-suc-le-zero h)
-own-stored (u ∷ t) (suc n) h own =
-    rw (own 0 (omega arith) (omega arith) .written)
-    (ap (λ (x : List ℕ). u ∷ x) (own-stored t n (le-of-suc-le-suc h) (λ k l m. own (suc k) (omega arith) (omega arith))))
+own-front-septets : (t : List ℕ) (n : ℕ) → n ≤ length t → OwnFrom t 0 n → septetsOf (take n t) ≡ take n t
+own-front-septets t n h own =
+    own-septets (take n t)
+    (λ k l. let below : k < n = omega (arith, l, length-take-le n t h) in subst Own (sym (getD-take n t k 0 below)) (own k below (omega arith)))
 
-pub encoding-front : (t out : List ℕ) {s : List ℕ} (n : ℕ) → n ≤ 182 → n ≤ length t → OwnFrom t 0 n → length out ≡ 184 → s ≡ laid (take n t) out → Encoding t s n n
+-- so the loop may begin after them, where the buffer holds them
+pub encoding-front : (t out : List ℕ) (n : ℕ) → n ≤ length t → n ≤ length out → OwnFrom t 0 n → take n out ≡ take n t → Encoding t out out n n
 unfolding laid
-encoding-front t out {s} n few within own size e =
-    let long : length (take n t) ≡ n = length-take-le n t within in
+encoding-front t out n within room own same =
+    let septets : septetsOf (take n t) ≡ take n t = own-front-septets t n within own in
+    let size : length (take n t) ≡ n = length-take-le n t within in
     record {
       within = within;
+      most = omega arith;
       listed = own-passed t n within own;
-      stored = ap (λ (x : List ℕ). take n x ++ septetsOf (drop n t)) e ∙ ap (λ (x : List ℕ). x ++ septetsOf (drop n t)) (take-at (take n t) (drop (length (take n t)) out) n long) ∙ own-stored t n within own;
-      fits = omega arith;
-      size = ap length e ∙ laid-length (take n t) out (omega arith) ∙ size;
+      fits = subst (λ (xs : List ℕ). Fits xs out n out) (sym septets)
+          (record {
+            count = sym size;
+            stored =
+                sym (take-append-drop n out)
+                ∙ ap₂ (λ (s : List ℕ) (k : ℕ). s ++ drop k out) same (sym size)
+                ∙ sym (ap (λ (s : List ℕ). s ++ drop (length s) out) (take-all (length out) (take n t) (omega (arith, size))));
+          });
+      long = refl;
     }
 
--- where the whole text was taken
-pub encoded-listed : {t s : List ℕ} {n i : ℕ} → Encoding t s n i → length t ≤ i → ltb (firstUnlisted t) (length t) ≡ false
-encoded-listed {t} {s} {n} {i} e h =
-    let at : firstUnlisted t ≡ i = passed-over (λ unit. isUnlisted (listedAs unit)) t i (e .listed) h in
-    le-ltb (firstUnlisted t) (length t) (omega (arith, at))
+-- what the call owes: its answer, and what it leaves in the buffer
+abbrev pub Encodes : List ℕ → List ℕ → Encoded → List ℕ → Type 0
+Encodes t start answer out = (answer ≡ encodedAs t) × (out ≡ encodedLeaves t start)
 
-pub encoded-septets : {t s : List ℕ} {n i : ℕ} → Encoding t s n i → length t ≤ i → take n s ≡ septetsOf t
-encoded-septets {t} {s} {n} {i} e h = sym (append-nil (take n s)) ∙ ap (λ (x : List ℕ). take n s ++ x) (sym (septets-over t i h)) ∙ e .stored
+-- the loop ends at the first unlisted unit, or at the end of the text
+pub encoded : {t start out : List ℕ} {n i : ℕ} → Encoding t start out n i → firstUnlisted t ≡ i → Encodes t start (record { units = i; septets = n }) out
+unfolding encodedAs encodedLeaves listedFront
+encoded {t} {start} {out} {n} {i} e at = rw at (ap (λ (k : ℕ). record { units = i; septets = k }) (e .fits .count), e .fits .stored)
 
-pub encoded-count : {t s : List ℕ} {n i : ℕ} → Encoding t s n i → length t ≤ i → n ≡ length (septetsOf t)
-encoded-count {t} {s} {n} {i} e h = sym (length-take-le n s (omega (arith, e .fits, e .size))) ∙ ap length (encoded-septets e h)
+-- what was at the front of the buffer does not matter where the septets go over it
+laid-over : (xs ys start : List ℕ) → length ys ≤ length xs → laid xs (laid ys start) ≡ laid xs start
+unfolding laid
+laid-over xs ys start h =
+    let far : length xs ≡ length ys + (length xs - length ys) = omega arith in
+    ap (λ (k : ℕ). xs ++ drop k (ys ++ drop (length ys) start)) far
+    ∙ ap (λ (s : List ℕ). xs ++ s) (drop-append-add ys (drop (length ys) start) (length xs - length ys) ∙ drop-drop (length xs - length ys) (length ys) start)
+    ∙ ap (λ (k : ℕ). xs ++ drop k start) (sym far)
 
--- where an unlisted unit ended it
-pub encoded-stopped : {t s : List ℕ} {n i : ℕ} → Encoding t s n i → i < length t → Unlisted ≡ listedAs (getD t i 0) → Stopped i ≡ measured t
-unfolding measured
-encoded-stopped {t} {s} {n} {i} e h bad =
-    let at : firstUnlisted t ≡ i = passed-here (λ unit. isUnlisted (listedAs unit)) t i (e .listed) h (ap isUnlisted (sym bad)) in
-    simp (at, lt-ltb _ _ h)
+-- and they go over at least the units that are their own codes
+own-few : (t : List ℕ) (n : ℕ) → n ≤ length t → OwnFrom t 0 n → n ≤ length (septetsOf (take (firstUnlisted t) t))
+own-few t n h own =
+    let left : List ℕ = take (firstUnlisted (drop n t)) (drop n t) in
+    let parts : septetsOf (take (firstUnlisted t) t) ≡ take n t ++ septetsOf left =
+    ap (λ (k : ℕ). septetsOf (take k t)) (own-passed t n h own)
+    ∙ ap septetsOf (take-add n (firstUnlisted (drop n t)) t)
+    ∙ septets-append (take n t) left
+    ∙ ap (λ (s : List ℕ). s ++ septetsOf left) (own-front-septets t n h own) in
+    omega (arith, ap length parts, length-append (take n t) (septetsOf left), length-take-le n t h)
+
+-- before the loop: the first n units are their own codes, and were laid over the front of the buffer
+pub record Begun (text start out : List ℕ) (n : ℕ) : Type 0 where
+  pub within : n ≤ length text
+  pub room : n ≤ length start
+  pub own : OwnFrom text 0 n
+  pub held : out ≡ laid (take n text) start
+
+module _ {t start front : List ℕ} {n : ℕ} (b : Begun t start front n) where
+  pub begun-long : length front ≡ length start
+  begun-long = ap length (b .held) ∙ laid-length (take n t) start (omega (arith, length-take-le n t (b .within), b .room))
+
+  pub begun-takes : ((n ≤ length t) × (n ≤ length front) × OwnFrom t 0 n) × (take n front ≡ take n t)
+  unfolding laid
+  begun-takes = (
+    (b .within, omega (arith, begun-long, b .room), b .own),
+    ap (take n) (b .held) ∙ take-at (take n t) (drop (length (take n t)) start) n (length-take-le n t (b .within)),
+  )
+
+  pub encodes-over : {answer : Encoded} {out : List ℕ} → Encodes t front answer out → Encodes t start answer out
+  unfolding encodedLeaves listedFront
+  encodes-over f =
+      let septets : List ℕ = septetsOf (take (firstUnlisted t) t) in
+      let few : length (take n t) ≤ length (take (length start) septets) =
+      omega (arith, length-take (length start) septets, own-few t n (b .within) (b .own), length-take-le n t (b .within), b .room) in
+      (f .0, f .1 ∙ ap₂ (λ (k : ℕ) (s : List ℕ). laid (take k septets) s) begun-long (b .held) ∙ laid-over (take (length start) septets) (take n t) start few)
+
+-- what the answer tells of the text
+module _ (t : List ℕ) {answer : Encoded} (e : answer ≡ encodedAs t) where
+  pub told-unlisted : answer .units ≡ firstUnlisted t
+  unfolding encodedAs
+  told-unlisted = ap (λ (a : Encoded). a .units) e
+
+  module _ (whole : length t ≤ answer .units) where
+    pub told-codable : Codable t
+    told-codable = omega (arith, whole, told-unlisted, place-most (λ unit. isUnlisted (listedAs unit)) t)
+
+    pub told-septets : answer .septets ≡ length (septetsOf t)
+    unfolding encodedAs
+    told-septets = ap (λ (a : Encoded). a .septets) e ∙ ap (λ (s : List ℕ). length (septetsOf s)) (codable-front t told-codable)
+
+    pub told-stored : (out : List ℕ) → length (septetsOf t) ≤ length out → encodedLeaves t out ≡ laid (septetsOf t) out
+    unfolding encodedLeaves
+    told-stored out room =
+        ap (λ (s : List ℕ). laid (take (length out) (septetsOf s)) out) (codable-front t told-codable)
+        ∙ ap (λ (s : List ℕ). laid s out) (take-all (length out) (septetsOf t) room)

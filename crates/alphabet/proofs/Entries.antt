@@ -1,24 +1,26 @@
 -- The code's tables say what the printed tables say: one computed test a table, and the rule that it carries to each entry.
 -- Assumes nothing.
 use mathlib.Core.Path.{_≡_, refl, ap, _∙_, sym, subst}
-use mathlib.Core.Bool.{Bool, true, false, cond}
+use mathlib.Core.Bool.{Bool, true, false, cond, false≢true}
+use mathlib.Core.Logic.{⊎-elim}
 use mathlib.Core.List.{List, [], _∷_}
 use Prim.{Unit}
-use Prim.Native.Nat.{ℕ, suc, _+_, _-_, _<_, _≤_}
-use native.Mathlib.Nat.{le-refl}
+use Prim.Native.Nat.{ℕ, zero, suc, _+_, _-_, _<_, _≤_}
+use native.Mathlib.Nat.{le-refl, eq-or-lt-of-le}
 use native.Mathlib.Omega.{arith}
 use lib.Dec.{T, eqb, ltb, eqb→eq}
-use lib.ListN.{length}
-use borrow.Author.Tests.{lt-ltb, le-ltb, ne-eqb}
-use Rattle.words.specs.Lists.{firstPlace}
-use Rattle.words.proofs.Tests.{everyEntry, every-entry, everyBelow, every-below}
+use lib.ListN.{length, List·getD-eq-default}
+use borrow.Author.Tests.{lt-ltb, le-ltb, ne-eqb, ltb-false}
+use Rattle.words.specs.Lists.{firstPlace, numbersFrom}
+use Rattle.words.proofs.Tests.{everyEntry, every-entry, every-below}
 use Rattle.alphabet.specs.declared.Listed.{Listed}
 use Rattle.alphabet.specs.declared.Listed.the-variants.{Unlisted, Main, Extension}
-use Rattle.alphabet.specs.Tables.{mainTable, extension, codes, units, among, beside}
-use Rattle.alphabet.specs.Writing.{listedAs}
-use Rattle.alphabet.specs.Reading.{afterEscape}
-use Rattle.alphabet.specs.Inner.{listing, RightFrom, shown, RightUnits}
-use Rattle.alphabet.proofs.Among.{among-not}
+use Rattle.alphabet.specs.Tables.{mainTable, extension, codes, units, among, escape, beside}
+use Rattle.alphabet.specs.Writing.{listedAs, isUnlisted}
+use Rattle.alphabet.specs.Reading.{afterEscape, mainUnit}
+use Rattle.alphabet.specs.Inner.{listing, shown}
+use Rattle.alphabet.proofs.Among.{among-not, place}
+use native.Mathlib.Decide.{decLe}
 
 -- two places of a unit are the same
 abbrev pub same : Listed → Listed → Bool
@@ -56,23 +58,6 @@ module _ (k : ℕ) (l : Listed) (e : listing k ≡ l) where
   pub entry-none : 0xff ≤ k → Unlisted ≡ l
   unfolding listing
   entry-none h = let high : 0x80 ≤ k = omega arith in sym (simp (le-ltb k 0x80 high, le-ltb k 0xff h)) ∙ e
-
--- an entry of a reverse table, at the unit that stands so far from the table's first
-unfoldable pub entryRight : ℕ → ℕ → ℕ → Bool
-entryRight first k entry = same (listing entry) (listedAs (first + k))
-
-pub entries-right : (first n : ℕ) (table : List ℕ) → T (everyEntry (entryRight first) 0 table) → length table ≡ n → RightFrom first n table
-unfolding entryRight
-entries-right first n table t long =
-    record { at = λ k h. same-is _ _ (every-entry (entryRight first) table t k (subst (λ (m : ℕ). k < m) (sym long) h)) }
-
-unfoldable pub unitRight : ℕ → ℕ → Bool
-unitRight code unit = eqb unit (shown code)
-
-pub units-right : (table : List ℕ) → T (everyEntry unitRight 0 table) → length table ≡ 0x80 → RightUnits table
-unfolding unitRight
-units-right table t long =
-    record { at = λ code h. eqb→eq _ _ (every-entry unitRight table t code (subst (λ (n : ℕ). code < n) (sym long) h)) }
 
 -- the units that the tables list lie below 0x100, among the Greek capitals, or are the euro sign
 unfoldable inside : ℕ → Bool
@@ -119,24 +104,69 @@ none-among : (ys : List ℕ) (x : ℕ) → NoneOf ys x Unit → among ys x ≡ f
 unfolding among
 none-among ys x h = le-ltb _ _ (subst (λ (n : ℕ). length ys ≤ n) (sym (none-place ys x Unit h .1)) (le-refl (length ys)))
 
-pub other-shown : (code : ℕ) → NoneOf (codes extension) code Unit → shown code ≡ afterEscape code
-unfolding afterEscape shown
-other-shown code h = sym (simp (none-among (codes extension) code h))
+-- the default of a match that has an arm for each code
+pub rest-wide : (code : ℕ) → NoneOf (numbersFrom 0 0x80) code Unit → 0x80 ≤ code
+unfolding among firstPlace numbersFrom
+rest-wide code none =
+    elim (decLe 0x80 code) [
+      | yes h ↦ h
+      | no h ↦ absurd (subst T (none-among (numbersFrom 0 0x80) code none) (every-below (among (numbersFrom 0 0x80)) 0x80 tt code (omega (arith, h))))
+    ]
 
--- the Greek capitals in the order of the code's match
-abbrev pub greekUnits : List ℕ
-greekUnits = 0x0394 ∷ 0x03a6 ∷ 0x0393 ∷ 0x039b ∷ 0x03a9 ∷ 0x03a0 ∷ 0x03a8 ∷ 0x03a3 ∷ 0x0398 ∷ 0x039e ∷ []
+-- each code of a table is below 80
+abbrev narrow : ℕ → Bool
+narrow code = ltb code 0x80
 
-unfoldable greekTest : ℕ → Bool
-greekTest u = cond (among greekUnits u) true (same Unlisted (listedAs u))
+main-narrow : T (everyEntry (λ k. narrow) 0 (codes mainTable))
+unfolding mainTable
+main-narrow = tt
 
-greek-tests : T (everyBelow (λ k. greekTest (0x393 + k)) 23)
-unfolding greekTest among beside firstPlace listedAs mainTable extension
-greek-tests = tt
+extension-narrow : T (everyEntry (λ k. narrow) 0 (codes extension))
+unfolding extension
+extension-narrow = tt
 
-pub greek-unlisted : (u : ℕ) → 0x393 ≤ u → u < 0x3aa → NoneOf greekUnits u Unit → Unlisted ≡ listedAs u
-unfolding greekTest
-greek-unlisted u h below none =
-    let e : 0x393 + (u - 0x393) ≡ u = omega arith in
-    let t : T (greekTest u) = subst (λ (x : ℕ). T (greekTest x)) e (every-below (λ k. greekTest (0x393 + k)) 23 greek-tests (u - 0x393) (omega arith)) in
-    same-is Unlisted (listedAs u) (simp (none-among greekUnits u none) at t)
+-- so what is not reads as 0
+module _ (code : ℕ) (wide : 0x80 ≤ code) where
+  main-wide : mainUnit code ≡ 0
+  unfolding mainUnit beside among mainTable
+  main-wide =
+      List·getD-eq-default (units mainTable) 0 {n = place (codes mainTable) code}
+      (ltb-false _ _ (absent narrow (codes mainTable) main-narrow code (le-ltb code 0x80 wide)))
+
+  escape-wide : eqb code escape ≡ false
+  escape-wide = ne-eqb code escape (λ e. omega (arith, e, wide))
+
+  pub shown-wide : 0 ≡ shown code
+  unfolding shown
+  shown-wide = sym (simp escape-wide main-wide)
+
+  pub escaped-wide : 0 ≡ afterEscape code
+  unfolding afterEscape
+  escaped-wide = sym (simp (absent narrow (codes extension) extension-narrow code (le-ltb code 0x80 wide), escape-wide) main-wide)
+
+-- the units that the tables list, of the n units from one on
+abbrev pub listedFrom : ℕ → ℕ → List ℕ
+listedFrom first zero = []
+listedFrom first (suc n) = elim (isUnlisted (listedAs first)) [ true ↦ listedFrom (suc first) n | false ↦ first ∷ listedFrom (suc first) n ]
+
+unlisted-is : (l : Listed) → isUnlisted l ≡ true → Unlisted ≡ l
+unlisted-is Unlisted e = refl
+unlisted-is (Main code) e = absurd (false≢true e)
+unlisted-is (Extension code) e = absurd (false≢true e)
+
+-- a unit of these that is none of the listed is unlisted
+none-first : (first u : ℕ) (rest : List ℕ) (before : Type 0) (b : Bool) → first ≤ u → isUnlisted (listedAs first) ≡ b
+    → ((t : Type 0) → first < u → NoneOf rest u t → Unlisted ≡ listedAs u)
+    → NoneOf (elim b as (λ (t : Bool). List ℕ) [ true ↦ rest | false ↦ first ∷ rest ]) u before → Unlisted ≡ listedAs u
+none-first first u rest before true h e later none =
+    ⊎-elim (λ (same : first ≡ u). unlisted-is (listedAs u) (ap (λ (x : ℕ). isUnlisted (listedAs x)) (sym same) ∙ e))
+    (λ (less : first < u). later before less none) (eq-or-lt-of-le h)
+none-first first u rest before false h e later none =
+    ⊎-elim (λ (same : first ≡ u). absurd (none-place rest u (before × (u ≡ first → ⊥)) none .0 .1 (sym same)))
+    (λ (less : first < u). later (before × (u ≡ first → ⊥)) less none) (eq-or-lt-of-le h)
+
+pub none-listed : (first n u : ℕ) (before : Type 0) → first ≤ u → u < first + n → NoneOf (listedFrom first n) u before → Unlisted ≡ listedAs u
+none-listed first zero u before h below none = absurd (omega arith)
+none-listed first (suc n) u before h below none =
+    none-first first u (listedFrom (suc first) n) before (isUnlisted (listedAs first)) h refl
+    (λ t less left. none-listed (suc first) n u t less (omega arith) left) none

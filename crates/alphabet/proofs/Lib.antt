@@ -1,10 +1,9 @@
 pub mod Among
 pub mod Entries
-pub mod Units
 pub mod Septets
 pub mod Rows
 pub mod OwnCodes
-pub mod Encodings
 pub mod Distinct
 pub mod Theorems
+pub mod Encodings
 pub mod Outcomes

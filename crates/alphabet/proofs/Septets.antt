@@ -1,26 +1,22 @@
 -- Septets to text, one unit after the other: what a loop over septets knows at each turn.
 -- Assumes nothing.
-use mathlib.Core.Path.{_≡_, ap, _∙_, sym, subst}
-use mathlib.Core.Bool.{Bool, true, false}
+use mathlib.Core.Path.{_≡_, refl, ap, _∙_, sym, subst}
+use mathlib.Core.Bool.{Bool, true, false, cond, false≢true}
 use mathlib.Core.List.{List, [], _∷_, map}
 use Prim.Native.Nat.{ℕ, suc, _+_, _<_, _≤_}
 use native.Mathlib.Numerals.{add-one}
 use native.Mathlib.Omega.{arith}
-use lib.Dec.{eqb, ltb, leb}
+use lib.Dec.{eqb, ltb}
 use lib.ListN.{length, getD, drop, drop-of-length-le, length-map}
 use lib.Seq.{drop-cons}
-use borrow.Author.Tests.{lt-ltb, le-ltb, eq-eqb, ne-eqb, leb-false}
+use borrow.Author.Tests.{lt-ltb, le-ltb, ltb-true, ltb-false, eq-eqb, ne-eqb, eqb-true, eqb-false}
 use Rattle.words.specs.declared.Refusal.the-variants.{NoSeptet}
 use Rattle.words.specs.declared.Filled.the-variants.{Refused}
-use Rattle.words.proofs.Places.{place-before, place-most}
+use Rattle.words.specs.Judging.{verdict}
 use Rattle.words.proofs.Filling.{Fills, fills-refused}
 use Rattle.alphabet.specs.Tables.{escape, space}
-use Rattle.alphabet.specs.Reading.{mainUnit, afterEscape, textOf, textEscaped, oldUnit, firstWide}
-use Rattle.alphabet.specs.Inner.{shown, readAs, firstRead, Stepped}
-
--- septets of which none is 128 or more
-pub narrow-at : (s : List ℕ) → firstWide s ≡ length s → (k : ℕ) → k < length s → getD s k 0 < 128
-narrow-at s e k h = leb-false 128 (getD s k 0) (place-before (λ x. leb 128 x) s k (omega arith))
+use Rattle.alphabet.specs.Reading.{mainUnit, afterEscape, textOf, textEscaped, oldUnit, readAs, firstWide, textRules, textAnswers, textLeaves, showRules, showAnswers, showLeaves}
+use Rattle.alphabet.specs.Inner.{shown, shownAs, escapesAt, firstRead, Stepped}
 
 pub text-plain : (x : ℕ) (xs : List ℕ) → (x ≡ escape → ⊥) → textOf (x ∷ xs) ≡ mainUnit x ∷ textOf xs
 unfolding textOf
@@ -42,12 +38,16 @@ pub shown-plain : (code : ℕ) → (code ≡ escape → ⊥) → shown code ≡ 
 unfolding shown
 shown-plain code ne = simp (ne-eqb code escape ne)
 
+shown-escape : shown escape ≡ space
+unfolding shown
+shown-escape = refl
+
 -- one step of a reading that answers the unit u
 module _ (s : List ℕ) (i : ℕ) (h : i < length s) (u : ℕ) where
   next-is : drop (suc i) s ≡ drop (i + 1) s
   next-is = ap (λ (k : ℕ). drop k s) (sym (add-one i))
 
-  pub step-old : u ≡ oldUnit (getD s i 0) → Stepped true s i u (i + 1)
+  step-old : u ≡ oldUnit (getD s i 0) → Stepped true s i u (i + 1)
   unfolding readAs
   step-old e =
       record {
@@ -56,7 +56,7 @@ module _ (s : List ℕ) (i : ℕ) (h : i < length s) (u : ℕ) where
         within = omega arith;
       }
 
-  pub step-plain : (getD s i 0 ≡ escape → ⊥) → u ≡ shown (getD s i 0) → Stepped false s i u (i + 1)
+  step-plain : (getD s i 0 ≡ escape → ⊥) → u ≡ shown (getD s i 0) → Stepped false s i u (i + 1)
   unfolding readAs
   step-plain ne e =
       record {
@@ -68,7 +68,7 @@ module _ (s : List ℕ) (i : ℕ) (h : i < length s) (u : ℕ) where
         within = omega arith;
       }
 
-  pub step-pair : getD s i 0 ≡ escape → i + 1 < length s → u ≡ afterEscape (getD s (i + 1) 0) → Stepped false s i u (i + 1 + 1)
+  step-pair : getD s i 0 ≡ escape → i + 1 < length s → u ≡ afterEscape (getD s (i + 1) 0) → Stepped false s i u (i + 1 + 1)
   unfolding readAs
   step-pair e l f =
       record {
@@ -81,7 +81,7 @@ module _ (s : List ℕ) (i : ℕ) (h : i < length s) (u : ℕ) where
         within = omega arith;
       }
 
-  pub step-last : getD s i 0 ≡ escape → i + 1 ≡ length s → u ≡ space → Stepped false s i u (i + 1)
+  step-last : getD s i 0 ≡ escape → i + 1 ≡ length s → u ≡ space → Stepped false s i u (i + 1)
   unfolding readAs textOf
   step-last e l f =
       let past : length s ≤ i + 1 = omega arith in
@@ -95,6 +95,29 @@ module _ (s : List ℕ) (i : ℕ) (h : i < length s) (u : ℕ) where
         on = omega arith;
         within = omega arith;
       }
+
+-- the same by the code's test: an escape and a code
+pub step-escape : (old : Bool) (s : List ℕ) (i : ℕ) → i < length s → (u : ℕ) → true ≡ escapesAt old s i → u ≡ afterEscape (getD s (i + 1) 0) → Stepped old s i u (i + 1 + 1)
+unfolding escapesAt
+step-escape true s i h u e f = absurd (false≢true (sym e))
+step-escape false s i h u e f = go (eqb (getD s i 0) escape) refl e
+  where
+    go : (b : Bool) → eqb (getD s i 0) escape ≡ b → true ≡ cond b (ltb (i + 1) (length s)) false → Stepped false s i u (i + 1 + 1)
+    go true q e = step-pair s i h u (eqb-true (getD s i 0) escape q) (ltb-true (i + 1) (length s) (sym e)) f
+    go false q e = absurd (false≢true (sym e))
+
+-- or one septet, which may be an escape at the end
+pub step-one : (old : Bool) (s : List ℕ) (i : ℕ) → i < length s → (u : ℕ) → false ≡ escapesAt old s i → u ≡ shownAs old (getD s i 0) → Stepped old s i u (i + 1)
+unfolding escapesAt shownAs
+step-one true s i h u e f = step-old s i h u f
+step-one false s i h u e f = go (eqb (getD s i 0) escape) refl e
+  where
+    go : (b : Bool) → eqb (getD s i 0) escape ≡ b → false ≡ cond b (ltb (i + 1) (length s)) false → Stepped false s i u (i + 1)
+    go true q e =
+        let at : getD s i 0 ≡ escape = eqb-true (getD s i 0) escape q in
+        let last : length s ≤ i + 1 = ltb-false (i + 1) (length s) (sym e) in
+        step-last s i h u at (omega arith) (f ∙ ap shown at ∙ shown-escape)
+    go false q e = step-plain s i h u (eqb-false (getD s i 0) escape q) f
 
 -- no septet is left
 pub read-over : (old : Bool) (s : List ℕ) (i : ℕ) → length s ≤ i → readAs old (drop i s) ≡ []
@@ -123,21 +146,16 @@ unfolding readAs
 read-most true s = omega (arith, length-map s oldUnit)
 read-most false s = text-most s
 
--- the same where the kind of page is known by a test
-pub stepped-old : {old b : Bool} {s : List ℕ} {i u next : ℕ} → old ≡ b → Stepped b s i u next → Stepped old s i u next
-stepped-old {old} {b} {s} {i} {u} {next} e step = subst (λ (x : Bool). Stepped x s i u next) (sym e) step
-
 -- what the first pass tells
-pub all-narrow : (s : List ℕ) (a : ℕ) → a ≡ firstWide s → length s ≤ a → firstWide s ≡ length s
-all-narrow s a e h = omega (arith, place-most (λ x. leb 128 x) s)
-
 pub refused-wide : (s text out : List ℕ) (a : ℕ) → a ≡ firstWide s → a < length s → Fills (ltb (firstWide s) (length s)) (NoSeptet (firstWide s)) text out (Refused (NoSeptet a)) out
 refused-wide s text out a e h =
     subst (λ (x : ℕ). Fills (ltb (firstWide s) (length s)) (NoSeptet (firstWide s)) text out (Refused (NoSeptet x)) out) (sym e)
     (fills-refused (ltb (firstWide s) (length s)) (NoSeptet (firstWide s)) text out (lt-ltb (firstWide s) (length s) (omega arith)))
 
-pub none-wide : (s : List ℕ) (a : ℕ) → a ≡ firstWide s → length s ≤ a → ltb (firstWide s) (length s) ≡ false
-none-wide s a e h = le-ltb (firstWide s) (length s) (omega arith)
+-- septets that pass it are then read as they are
+pub shown-judged : (s text out : List ℕ) (a : ℕ) → a ≡ firstWide s → length s ≤ a → (showAnswers text (length out) ≡ textAnswers s text (length out)) × (showLeaves text out ≡ textLeaves s text out)
+unfolding textRules textAnswers textLeaves showRules showAnswers showLeaves verdict
+shown-judged s text out a e h = simp (le-ltb (firstWide s) (length s) (omega arith)) (refl, refl)
 
 pub stepped-first : {old : Bool} {s : List ℕ} {i u next : ℕ} → Stepped old s i u next → Stepped old s i (firstRead old s i) next
 stepped-first {old} {s} {i} {u} {next} step =

@@ -2,6 +2,7 @@
 -- Assumes nothing.
 --   units-once                    == no unit stands at two codes, over both tables
 --   listed-main, listed-extension == so each row of a table is the one way to write its unit
+--   codable-front                 == of a text whose every unit is listed, all units come before the first unlisted one
 --   text-septets                  == reading the septets of a text gives the text back
 --   septets-injective             == text to septets is one to one
 --   septets-least, septets-most   == a text of k units takes from k to 2k septets
@@ -16,24 +17,24 @@ use mathlib.Core.Path.{_≡_, refl, ap, _∙_, sym}
 use mathlib.Core.Bool.{Bool, true, false}
 use mathlib.Core.List.{List, [], _∷_, _++_, append-assoc, append-nil}
 use mathlib.Core.Logic.{_↔_}
-use Prim.Native.Nat.{ℕ, zero, suc, _+_, _*_, _<_, _≤_}
+use Prim.Native.Nat.{ℕ, zero, suc, _*_, _<_, _≤_}
 use native.Mathlib.Nat.{suc-inj}
 use native.Mathlib.Omega.{arith}
 use lib.Dec.{T}
 use lib.ListN.{length, getD, replicate, length-append}
+use lib.Seq.{take-all}
 use Rattle.words.specs.Lists.{firstPlace}
 use Rattle.words.proofs.Below.{Below, below-append}
 use Rattle.words.proofs.Ends.{EndsIn, not-ending, last-unique, by-last}
 use Rattle.alphabet.specs.declared.Listed.{Listed}
 use Rattle.alphabet.specs.declared.Listed.the-variants.{Unlisted, Main, Extension}
 use Rattle.alphabet.specs.Tables.{escape, mainTable, extension, units, codes, among, beside}
-use Rattle.alphabet.specs.Writing.{listedAs, septetsFor, septetsOf, isUnlisted, firstUnlisted}
+use Rattle.alphabet.specs.Writing.{listedAs, septetsFor, septetsOf, isUnlisted, firstUnlisted, listedFront}
 use Rattle.alphabet.specs.Reading.{mainUnit, textOf}
 use Rattle.alphabet.proofs.Among.{place, among-stands, among-not}
 use Rattle.alphabet.proofs.Distinct.{distinct, distinct-once, once-place, once-front, once-back, once-apart}
 use Rattle.alphabet.proofs.Rows.{ReadsAs, listed-reads}
 use Rattle.alphabet.proofs.Septets.{text-plain, text-pair}
-use Rattle.alphabet.proofs.Units.{short}
 
 -- the units of both tables, one after the other
 abbrev pub alphabet : List ℕ
@@ -79,6 +80,10 @@ pub codable-rest : (u : ℕ) (t : List ℕ) → Codable (u ∷ t) → Codable t
 unfolding firstPlace
 codable-rest u t c = codable-cases (isUnlisted (listedAs u)) (firstUnlisted t) (length t) c .1
 
+pub codable-front : (t : List ℕ) → Codable t → listedFront t ≡ t
+unfolding listedFront
+codable-front t c = take-all (firstUnlisted t) t (omega (arith, c))
+
 listed-read : (l : Listed) (u : ℕ) (rest : List ℕ) → isUnlisted l ≡ false → ReadsAs l u → textOf (septetsFor l ++ rest) ≡ u ∷ textOf rest
 listed-read Unlisted u rest e r = let z : _≡_ {A = ℕ} 0 1 = cc in absurd (omega arith)
 listed-read (Main code) u rest e r = text-plain code rest (r .1) ∙ ap (λ (x : ℕ). x ∷ textOf rest) (r .2)
@@ -92,6 +97,12 @@ text-septets (u ∷ t) c =
 
 pub septets-injective : (t v : List ℕ) → Codable t → Codable v → septetsOf t ≡ septetsOf v → t ≡ v
 septets-injective t v c d e = sym (text-septets t c) ∙ ap textOf e ∙ text-septets v d
+
+-- a unit takes two septets at most
+short : (l : Listed) → length (septetsFor l) ≤ 2
+short Unlisted = omega arith
+short (Main code) = omega arith
+short (Extension code) = omega arith
 
 pub septets-most : (t : List ℕ) → length (septetsOf t) ≤ 2 * length t
 unfolding septetsOf
@@ -142,7 +153,7 @@ pub septets-closing : (t : List ℕ) (n : ℕ) → septetsOf (t ++ replicate n 0
 septets-closing t n = septets-append t (replicate n 0x000d) ∙ ap (λ (x : List ℕ). septetsOf t ++ x) (crs-septets n)
 
 -- the last unit's septets are the last septets
-septets-last : (t : List ℕ) (u : ℕ) → septetsOf (t ++ (u ∷ [])) ≡ septetsOf t ++ septetsFor (listedAs u)
+pub septets-last : (t : List ℕ) (u : ℕ) → septetsOf (t ++ (u ∷ [])) ≡ septetsOf t ++ septetsFor (listedAs u)
 unfolding septetsOf
 septets-last t u = septets-append t (u ∷ []) ∙ ap (λ (x : List ℕ). septetsOf t ++ x) (append-nil (septetsFor (listedAs u)))
 

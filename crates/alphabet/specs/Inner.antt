@@ -1,40 +1,35 @@
 -- What only the private functions of this crate cite: how the code's own tables are read, and one step of a reading loop.
 -- Own rule: none. Assumes nothing.
---   listing k              == what an entry k of a reverse table says of its unit
---   RightFrom first n t    == t has for each of the n units from first on what the printed tables list
+--   listing k              == what an entry k of the reverse tables says of its unit
 --   shown code             == the code's unit of the main table, and a space for the escape
---   RightUnits units       == units has at each code what is shown for it
+--   shownAs old code       == the same, or the code's unit in an old page
 --   Own u                  == the unit u is its own code, in an old page too
 --   OwnFrom s a b          == each unit of s from place a to place b is its own code
 --   AllOwn s               == each unit of s is its own code
---   Encoding t s n i       == the first n septets of the array s are those of the first i units of the text t, which are all listed
---   readAs old septets     == the text of the septets, read as an old page or as the present alphabet
+--   escapesAt old s i      == whether an escape with a code after it stands at place i of s, as only the present alphabet has it
 --   firstRead old s i      == the unit that reading s from place i on gives first
 --   Stepped old s i u next == reading s from place i on gives the unit u first, and goes on at next
 use mathlib.Core.Path.{_≡_}
-use Prim.Native.Nat.{ℕ, _+_, _-_, _<_, _≤_}
-use mathlib.Core.Bool.{Bool, true, false, cond}
-use mathlib.Core.List.{List, _∷_, _++_}
+use Prim.Native.Nat.{ℕ, _-_, _<_, _≤_, _+_}
+use mathlib.Core.Bool.{Bool, false, cond}
+use mathlib.Core.List.{List, _∷_}
 use lib.Dec.{eqb, ltb}
-use lib.ListN.{length, getD, take, drop}
+use lib.ListN.{length, getD, drop}
 use Rattle.alphabet.specs.declared.Listed.{Listed}
 use Rattle.alphabet.specs.declared.Listed.the-variants.{Unlisted, Main, Extension}
 use Rattle.alphabet.specs.Tables.{escape, space}
-use Rattle.alphabet.specs.Writing.{listedAs, septetsOf, firstUnlisted}
-use Rattle.alphabet.specs.Reading.{mainUnit, oldUnit, textOf, oldTextOf}
+use Rattle.alphabet.specs.Writing.{listedAs}
+use Rattle.alphabet.specs.Reading.{mainUnit, oldUnit, readAs}
 
 -- below 80 a code of the main table, from there on a code after an escape, and FF for an unlisted unit
 unfoldable pub listing : ℕ → Listed
 listing k = cond (ltb k 0x80) (Main k) (cond (ltb k 0xff) (Extension (k - 0x80)) Unlisted)
 
-pub record RightFrom (first n : ℕ) (table : List ℕ) : Type 0 where
-  pub at : (k : ℕ) → k < n → listing (getD table k 0) ≡ listedAs (first + k)
-
 unfoldable pub shown : ℕ → ℕ
 shown code = cond (eqb code escape) space (mainUnit code)
 
-pub record RightUnits (units : List ℕ) : Type 0 where
-  pub at : (code : ℕ) → code < 0x80 → getD units code 0 ≡ shown code
+unfoldable pub shownAs : Bool → ℕ → ℕ
+shownAs old code = cond old (oldUnit code) (shown code)
 
 pub record Own (u : ℕ) : Type 0 where
   pub below : u < 0x80
@@ -49,16 +44,8 @@ OwnFrom s a b = (k : ℕ) → k < b → a ≤ k → Own (getD s k 0)
 abbrev pub AllOwn : List ℕ → Type 0
 AllOwn s = (k : ℕ) → k < length s → Own (getD s k 0)
 
-pub record Encoding (text septets : List ℕ) (n i : ℕ) : Type 0 where
-  pub within : i ≤ length text
-  pub listed : firstUnlisted text ≡ i + firstUnlisted (drop i text)
-  pub stored : take n septets ++ septetsOf (drop i text) ≡ septetsOf text
-  pub fits : n ≤ 184
-  pub size : length septets ≡ 184
-
-unfoldable pub readAs : Bool → List ℕ → List ℕ
-readAs true septets = oldTextOf septets
-readAs false septets = textOf septets
+unfoldable pub escapesAt : Bool → List ℕ → ℕ → Bool
+escapesAt old septets i = cond old false (cond (eqb (getD septets i 0) escape) (ltb (i + 1) (length septets)) false)
 
 -- the first unit of what is left from place i on
 abbrev pub firstRead : Bool → List ℕ → ℕ → ℕ

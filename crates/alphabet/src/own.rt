@@ -1,14 +1,13 @@
 // Units that are their own codes, as most letters, digits and signs are: a test without branches or tables, and plain copies.
 // A loop over the test vectorises, eight units or sixteen septets at a time.
 ghost use mathlib.Core.Path.{_≡_};
-ghost use mathlib.Core.Bool.{cond};
+ghost use mathlib.Core.Bool.{true, cond};
 ghost use Prim.Native.Nat.{_+_, _-_, _≤_};
 ghost use lib.Dec.{eqb};
 ghost use lib.ListN.{length, take};
 ghost use Rattle.words.specs.Lists.{laid};
-ghost use Rattle.alphabet.specs.Writing.{septetsAnswers, septetsLeaves};
-ghost use Rattle.alphabet.specs.Reading.{textAnswers, textLeaves};
-ghost use Rattle.alphabet.specs.Inner.{Own, OwnFrom, AllOwn, readAs};
+ghost use Rattle.alphabet.specs.Reading.{readAs, showAnswers, showLeaves};
+ghost use Rattle.alphabet.specs.Inner.{Own, OwnFrom, AllOwn};
 use words::Filled;
 use words::Refusal;
 
@@ -71,52 +70,93 @@ fn odd_units(text: &[u16], from: usize, to: usize) -> u16
     bits
 }
 
-// How many units at the front of a text are their own codes: all of them, or some multiple of 16 before the first that is not.
+// The same of the eight units from a place on.
+fn odd_eight_units(text: &[u16], n: usize) -> u16
+    requires { ⌜ n + 8 ≤ length (now text) ⌝ }
+    ensures { λ r. ⌜ (r ≡ 0 → OwnFrom (now (text .entry)) n (n + 8)) ⌝ }
+{
+    odd_units(text, n, n + 8)
+}
+
+// How many units at the front of a text are their own codes: all of them, or as many eights as were found to be. None of a text that is
+// shorter than eight, which costs no more unit by unit. Sixteen at a time, and the end eight at a time, the last eight over again where they
+// overlap: a loop over fewer would not vectorise.
 pub(crate) fn own_front(text: &[u16]) -> usize
     ensures { λ r. ⌜ (r ≤ length (now (text .entry))) × OwnFrom (now (text .entry)) 0 r ⌝ }
 {
-    let mut n: usize = 0;
-    while 16 <= text.len() - n {
-        let next = n + 16;
-        if odd_units(text, n, next) != 0 {
-            return n;
-        }
-        n = next;
-    }
-    if odd_end(text, n) != 0 {
-        return n;
-    }
-    text.len()
-}
-
-// 0 only for units of which each is its own code, from a place among the last sixteen on. Eight at a time, the last eight over again where
-// they overlap: a loop over fewer would go unit by unit.
-fn odd_end(text: &[u16], n: usize) -> u16
-    requires { ⌜ (n ≤ length (now text)) × (length (now text) ≤ n + 16) ⌝ }
-    ensures { λ r. ⌜ (r ≡ 0 → OwnFrom (now (text .entry)) n (length (now (text .entry)))) ⌝ }
-{
     let len = text.len();
     if len < 8 {
-        return odd_units(text, n, len);
+        return 0;
     }
-    let last = odd_units(text, len - 8, len);
-    if 8 < len - n {
-        return odd_units(text, n, n + 8) | last;
+    let mut n: usize = 0;
+    while 16 <= len - n {
+        if odd_units(text, n, n + 16) != 0 {
+            if odd_eight_units(text, n) == 0 {
+                return n + 8;
+            }
+            return n;
+        }
+        n += 16;
     }
-    last
+    if 8 <= len - n {
+        if odd_eight_units(text, n) != 0 {
+            return n;
+        }
+        n += 8;
+    }
+    if n < len {
+        if odd_eight_units(text, len - 8) != 0 {
+            return n;
+        }
+    }
+    len
 }
 
-// 0 only for septets of which each is its own unit.
-pub(crate) fn odd_septets(septets: &[u8]) -> u8
-    ensures { λ r. ⌜ (r ≡ 0 → AllOwn (now (septets .entry))) ⌝ }
+// 0 only for septets of which each is its own unit, from one place to another.
+fn odd_septets(septets: &[u8], from: usize, to: usize) -> u8
+    requires { ⌜ (from ≤ to) × (to ≤ length (now septets)) ⌝ }
+    ensures { λ r. ⌜ (r ≡ 0 → OwnFrom (now (septets .entry)) from to) ⌝ }
 {
     let mut bits: u8 = 0;
-    let mut i: usize = 0;
-    while i < septets.len() {
+    let mut i: usize = from;
+    while i < to {
         bits = bits | odd_septet(septets[i]);
         i += 1;
     }
     bits
+}
+
+// The same of eight septets: of a run of known length the compiler makes a few instructions.
+fn odd_eight(septets: &[u8], n: usize) -> u8
+    requires { ⌜ n + 8 ≤ length (now septets) ⌝ }
+    ensures { λ r. ⌜ (r ≡ 0 → OwnFrom (now (septets .entry)) n (n + 8)) ⌝ }
+{
+    odd_septets(septets, n, n + 8)
+}
+
+// True only for septets of which each is its own unit, and false for fewer than eight. 32 at a time, then eight, the last eight over again
+// where they overlap: a loop over fewer would go septet by septet.
+pub(crate) fn all_own(septets: &[u8]) -> bool
+    ensures { λ r. ⌜ (r ≡ true → AllOwn (now (septets .entry))) ⌝ }
+{
+    let len = septets.len();
+    if len < 8 {
+        return false;
+    }
+    let mut n: usize = 0;
+    while 32 <= len - n {
+        if odd_septets(septets, n, n + 32) != 0 {
+            return false;
+        }
+        n += 32;
+    }
+    while 8 <= len - n {
+        if odd_eight(septets, n) != 0 {
+            return false;
+        }
+        n += 8;
+    }
+    odd_eight(septets, len - 8) == 0
 }
 
 // Lays the first n units over the front of the buffer as septets.
@@ -145,25 +185,11 @@ fn copy_septets(septets: &[u8], out: &mut [u16])
     }
 }
 
-// Text to septets, of a text of which each unit is its own code.
-pub(crate) fn fill_septets(text: &[u16], out: &mut [u8]) -> Filled
-    requires { ⌜ AllOwn (now text) ⌝ }
-    ensures answer { λ r. ⌜ r ≡ septetsAnswers (now (text .entry)) (length (now (out .entry))) ⌝ }
-    ensures buffer { λ r. ⌜ now (out .exit) ≡ septetsLeaves (now (text .entry)) (now (out .entry)) ⌝ }
-{
-    let n = text.len();
-    if out.len() < n {
-        return Filled::Refused(Refusal::NoRoom);
-    }
-    copy_units(text, n, out);
-    Filled::Done(n)
-}
-
 // Septets to text, of septets of which each is its own unit.
 pub(crate) fn fill_text(septets: &[u8], old: bool, out: &mut [u16]) -> Filled
     requires { ⌜ AllOwn (now septets) ⌝ }
-    ensures answer { λ r. ⌜ r ≡ textAnswers (now (septets .entry)) (readAs old (now (septets .entry))) (length (now (out .entry))) ⌝ }
-    ensures buffer { λ r. ⌜ now (out .exit) ≡ textLeaves (now (septets .entry)) (readAs old (now (septets .entry))) (now (out .entry)) ⌝ }
+    ensures answer { λ r. ⌜ r ≡ showAnswers (readAs old (now (septets .entry))) (length (now (out .entry))) ⌝ }
+    ensures buffer { λ r. ⌜ now (out .exit) ≡ showLeaves (readAs old (now (septets .entry))) (now (out .entry)) ⌝ }
 {
     let n = septets.len();
     if out.len() < n {

@@ -3,8 +3,8 @@ ghost use mathlib.Core.Path.{_≡_};
 ghost use Prim.Native.Nat.{_≤_, _<_};
 ghost use lib.ListN.{length};
 ghost use Rattle.words.specs.Lists.{laid};
-ghost use Rattle.alphabet.specs.Reading.{firstWide, textAnswers, textLeaves};
-ghost use Rattle.alphabet.specs.Inner.{RightUnits, readAs, firstRead, Stepped};
+ghost use Rattle.alphabet.specs.Reading.{readAs, firstWide, textAnswers, textLeaves, showAnswers, showLeaves};
+ghost use Rattle.alphabet.specs.Inner.{escapesAt, firstRead, Stepped};
 use crate::own;
 use crate::tables;
 use words::Filled;
@@ -30,35 +30,36 @@ struct Step {
     next: usize,
 }
 
-// The unit that is read at i, and where reading goes on: a code of its own, an escape and a code, or an escape at the end.
-fn read_step(septets: &[u8], old: bool, i: usize, units: &[u16; 128]) -> Step
-    requires { ⌜ RightUnits (now units) ⌝ }
-    requires { ⌜ (i < length (now septets)) × (firstWide (now septets) ≡ length (now septets)) ⌝ }
+// Whether an escape with a code after it stands at i.
+fn escapes(septets: &[u8], old: bool, i: usize) -> bool
+    requires { ⌜ i < length (now septets) ⌝ }
+    ensures answer { λ r. ⌜ r ≡ escapesAt old (now (septets .entry)) i ⌝ }
+{
+    if old {
+        return false;
+    }
+    if septets[i] != 0x1b {
+        return false;
+    }
+    i + 1 < septets.len()
+}
+
+// The unit that is read at i, and where reading goes on: an escape and a code, or one septet. There is one call of each table, so that the
+// compiler puts it in place.
+fn read_step(septets: &[u8], old: bool, i: usize) -> Step
+    requires { ⌜ i < length (now septets) ⌝ }
     ensures answer { λ r. ⌜ Stepped old (now (septets .entry)) i (r .unit) (r .next) ⌝ }
 {
-    let code = septets[i];
     let j = i + 1;
-    if old {
+    if escapes(septets, old, i) {
         return Step {
-            unit: tables::old_unit(code, units),
-            next: j,
-        };
-    }
-    if code != 0x1b {
-        return Step {
-            unit: tables::shown_unit(code, units),
-            next: j,
-        };
-    }
-    if j == septets.len() {
-        return Step {
-            unit: 0x0020,
-            next: j,
+            unit: tables::after_escape(septets[j]),
+            next: j + 1,
         };
     }
     Step {
-        unit: tables::after_escape(septets[j], units),
-        next: j + 1,
+        unit: tables::unit_of(septets[i], old),
+        next: j,
     }
 }
 
@@ -68,16 +69,10 @@ fn next_place(septets: &[u8], old: bool, i: usize) -> usize
     ensures answer { λ r. ⌜ Stepped old (now (septets .entry)) i (firstRead old (now (septets .entry)) i) r ⌝ }
 {
     let j = i + 1;
-    if old {
-        return j;
+    if escapes(septets, old, i) {
+        return j + 1;
     }
-    if septets[i] != 0x1b {
-        return j;
-    }
-    if j == septets.len() {
-        return j;
-    }
-    j + 1
+    j
 }
 
 // The number of units that the septets read as.
@@ -95,16 +90,14 @@ fn units_in(septets: &[u8], old: bool) -> usize
 
 // Lays the text of the septets over the front of the buffer, and answers how many units it has.
 fn lay_text(septets: &[u8], old: bool, out: &mut [u16]) -> usize
-    requires { ⌜ firstWide (now septets) ≡ length (now septets) ⌝ }
     requires { ⌜ length (readAs old (now septets)) ≤ length (now out) ⌝ }
     ensures answer { λ r. ⌜ r ≡ length (readAs old (now (septets .entry))) ⌝ }
     ensures buffer { λ r. ⌜ now (out .exit) ≡ laid (readAs old (now (septets .entry))) (now (out .entry)) ⌝ }
 {
-    let units = tables::unit_table();
     let mut n: usize = 0;
     let mut i = 0;
     while i < septets.len() {
-        let step = read_step(septets, old, i, &units);
+        let step = read_step(septets, old, i);
         out[n] = step.unit;
         n += 1;
         i = step.next;
@@ -112,26 +105,14 @@ fn lay_text(septets: &[u8], old: bool, out: &mut [u16]) -> usize
     n
 }
 
-// Septets to text: septets that are their own units are copied, others are read by a table.
-pub(crate) fn read_text(septets: &[u8], old: bool, out: &mut [u16]) -> Filled
-    ensures answer { λ r. ⌜ r ≡ textAnswers (now (septets .entry)) (readAs old (now (septets .entry))) (length (now (out .entry))) ⌝ }
-    ensures buffer { λ r. ⌜ now (out .exit) ≡ textLeaves (now (septets .entry)) (readAs old (now (septets .entry))) (now (out .entry)) ⌝ }
-{
-    if own::odd_septets(septets) == 0 {
-        own::fill_text(septets, old, out)
-    } else {
-        read_by_table(septets, old, out)
-    }
-}
-
+// Septets to text, whatever they are: septets that are their own units are copied, others are read by a table.
 // Units are never more than septets, so only a buffer that is shorter than those is measured.
-fn read_by_table(septets: &[u8], old: bool, out: &mut [u16]) -> Filled
-    ensures answer { λ r. ⌜ r ≡ textAnswers (now (septets .entry)) (readAs old (now (septets .entry))) (length (now (out .entry))) ⌝ }
-    ensures buffer { λ r. ⌜ now (out .exit) ≡ textLeaves (now (septets .entry)) (readAs old (now (septets .entry))) (now (out .entry)) ⌝ }
+pub(crate) fn read_text(septets: &[u8], old: bool, out: &mut [u16]) -> Filled
+    ensures answer { λ r. ⌜ r ≡ showAnswers (readAs old (now (septets .entry))) (length (now (out .entry))) ⌝ }
+    ensures buffer { λ r. ⌜ now (out .exit) ≡ showLeaves (readAs old (now (septets .entry))) (now (out .entry)) ⌝ }
 {
-    let wide = first_wide(septets);
-    if wide < septets.len() {
-        return Filled::Refused(Refusal::NoSeptet { septet: wide });
+    if own::all_own(septets) {
+        return own::fill_text(septets, old, out);
     }
     if out.len() < septets.len() {
         if out.len() < units_in(septets, old) {
@@ -140,4 +121,16 @@ fn read_by_table(septets: &[u8], old: bool, out: &mut [u16]) -> Filled
     }
     let n = lay_text(septets, old, out);
     Filled::Done(n)
+}
+
+// Septets to text, of which each has to be below 128.
+pub(crate) fn judge_text(septets: &[u8], old: bool, out: &mut [u16]) -> Filled
+    ensures answer { λ r. ⌜ r ≡ textAnswers (now (septets .entry)) (readAs old (now (septets .entry))) (length (now (out .entry))) ⌝ }
+    ensures buffer { λ r. ⌜ now (out .exit) ≡ textLeaves (now (septets .entry)) (readAs old (now (septets .entry))) (now (out .entry)) ⌝ }
+{
+    let wide = first_wide(septets);
+    if wide < septets.len() {
+        return Filled::Refused(Refusal::NoSeptet { septet: wide });
+    }
+    read_text(septets, old, out)
 }

@@ -5,9 +5,6 @@ use borrow.Author.Needs.{needs}
 use Rattle.alphabet.proofs.find.Statement.{statement}
 use Rattle.alphabet.proofs.find.Tie as tie
 
-low-table-requires : tie.Need-low-table-requires
-low-table-requires c κs = search needs
-
 entry-of-requires : tie.Need-entry-of-requires
 entry-of-requires c κs = search needs
 
@@ -18,4 +15,4 @@ returns : tie.Need-returns
 returns c = c .listed .ensures ∙ c .before .entry-of .ensures
 
 pub find-spec : {M : Type 1} → statement M
-find-spec = tie.close (tie.spec low-table-requires entry-of-requires listed-requires returns)
+find-spec = tie.close (tie.spec entry-of-requires listed-requires returns)

@@ -3,7 +3,6 @@
 use mathlib.Core.Path.{_≡_}
 use Prim.Native.Nat.{_-_, _≤_}
 use native.Mathlib.Omega.{arith}
-use lib.ListN.{length}
 use borrow.Author.Needs.{needs}
 use Rattle.alphabet.specs.Inner.{OwnFrom}
 use Rattle.alphabet.proofs.OwnCodes.{own-none, own-more}
@@ -11,13 +10,13 @@ use Rattle.alphabet.proofs.own.odd_septets.Statement.{statement}
 use Rattle.alphabet.proofs.own.odd_septets.Tie as tie
 
 abbrev Inv-loop : tie.InvT-loop
-Inv-loop septets bits₀ i₀ bits i = (i ≤ length septets) × (bits ≡ 0 → OwnFrom septets 0 i)
+Inv-loop septets from to bits₀ i₀ bits i = (i ≤ to) × (from ≤ i) × (bits ≡ 0 → OwnFrom septets from i)
 
 abbrev μ-loop : tie.MeasureT-loop
-μ-loop septets bits₀ i₀ bits i = length septets - i
+μ-loop septets from to bits₀ i₀ bits i = to - i
 
 loop-holds : tie.Need-loop-holds Inv-loop μ-loop
-loop-holds c = (search needs, λ e. own-none (c .before .args .septets .now) 0)
+loop-holds c = (search needs, search needs, λ e. own-none (c .before .args .septets .now) (c .before .args .from))
 
 shared-slice-read-odd-septet : tie.Need-shared-slice-read-odd-septet Inv-loop μ-loop
 shared-slice-read-odd-septet c = search needs
@@ -34,10 +33,10 @@ loop-less c = search needs
 loop-again : tie.Need-loop-again Inv-loop μ-loop
 loop-again c =
     let at = c .before .before .before in
-    (search needs, own-more (at .before .before .args .septets .now) 0 (at .loop .i) (at .loop .bits) (c .odd-septet .result) (at .loop .inv .1) (c .odd-septet .ensures))
+    (search needs, search needs, own-more (at .before .before .args .septets .now) (at .before .before .args .from) (at .loop .i) (at .loop .bits) (c .odd-septet .result) (at .loop .inv .2) (c .odd-septet .ensures))
 
 returns : tie.Need-returns Inv-loop μ-loop
-returns c = λ e k l. c .before .loop .inv .1 e k (omega arith) (omega arith)
+returns c = λ e k l m. c .before .loop .inv .2 e k (omega arith) m
 
 pub odd-septets-spec : {M : Type 1} → statement M
 odd-septets-spec =

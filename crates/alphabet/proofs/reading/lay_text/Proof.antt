@@ -6,34 +6,31 @@ use native.Mathlib.Omega.{arith}
 use lib.ListN.{length, drop}
 use borrow.Author.Needs.{needs}
 use Rattle.words.proofs.Laid.{Laying, lay-none, lay-room, lay-one, lay-left, lay-end, lay-count}
-use Rattle.alphabet.specs.Inner.{readAs}
+use Rattle.alphabet.specs.Reading.{readAs}
 use Rattle.alphabet.proofs.Septets.{read-over}
 use Rattle.alphabet.proofs.reading.lay_text.Statement.{statement}
 use Rattle.alphabet.proofs.reading.lay_text.Tie as tie
 
 abbrev Inv-loop : tie.InvT-loop
-Inv-loop septets old out₀ units n₀ i₀ out n i = (i ≤ length septets) × (n ≤ i) × Laying out₀ (readAs old septets) (readAs old (drop i septets)) n out
+Inv-loop septets old out₀ n₀ i₀ out n i = (i ≤ length septets) × (n ≤ i) × Laying out₀ (readAs old septets) (readAs old (drop i septets)) n out
 
 abbrev μ-loop : tie.MeasureT-loop
-μ-loop septets old out₀ units n₀ i₀ out n i = length septets - i
-
-unit-table-requires : tie.Need-unit-table-requires Inv-loop μ-loop
-unit-table-requires c κs = search needs
+μ-loop septets old out₀ n₀ i₀ out n i = length septets - i
 
 loop-holds : tie.Need-loop-holds Inv-loop μ-loop
 loop-holds c = (omega arith, omega arith, lay-none _ _)
 
 read-step-requires : tie.Need-read-step-requires Inv-loop μ-loop
-read-step-requires c κs = (c .before .before .before .unit-table .ensures, (c .before .loop-test .taken, c .before .before .before .before .before .before .pre .0))
+read-step-requires c κs = c .loop-test .taken
 
 mul-out : tie.Need-mul-out Inv-loop μ-loop
 mul-out c =
-    let start = c .before .before .before .before .before .before .before in
-    let l = lay-left (c .before .before .before .loop .inv .2) (c .read-step .ensures .reads) in
-    omega (arith, lay-room l (start .pre .1), l .long, start .good .1 .1 .0 .1)
+    let start = c .before .before .before .before .before in
+    let l = lay-left (c .before .before .loop .inv .2) (c .read-step .ensures .reads) in
+    omega (arith, lay-room l (start .pre), l .long, start .good .1 .1 .0 .1)
 
 slice-write-out : tie.Need-slice-write-out Inv-loop μ-loop
-slice-write-out c = lay-room (lay-left (c .before .before .before .loop .inv .2) (c .read-step .ensures .reads)) (c .before .before .before .before .before .before .before .pre .1)
+slice-write-out c = lay-room (lay-left (c .before .before .loop .inv .2) (c .read-step .ensures .reads)) (c .before .before .before .before .before .pre)
 
 add-n : tie.Need-add-n Inv-loop μ-loop
 add-n c = omega (arith, c .read-step .ensures .on, c .read-step .ensures .within)
@@ -45,7 +42,7 @@ loop-again : tie.Need-loop-again Inv-loop μ-loop
 loop-again c = (
   c .read-step .ensures .within,
   omega (arith, c .read-step .ensures .on),
-  lay-one (lay-left (c .before .before .before .loop .inv .2) (c .read-step .ensures .reads)) (c .before .before .before .before .before .before .before .pre .1),
+  lay-one (lay-left (c .before .before .loop .inv .2) (c .read-step .ensures .reads)) (c .before .before .before .before .before .pre),
 )
 
 same-length : tie.Need-same-length Inv-loop μ-loop
@@ -53,7 +50,7 @@ same-length c = search needs
 
 returns : tie.Need-returns Inv-loop μ-loop
 returns c =
-    let start = c .before .before .before .before .before in
+    let start = c .before .before .before .before in
     let over = read-over (start .args .old) (start .args .septets .now) (c .before .loop .i) (c .loop-test .left) in
     (omega (arith, lay-count (c .before .loop .inv .2), ap length over), lay-end (c .before .loop .inv .2) over)
 
@@ -63,7 +60,6 @@ lay-text-spec =
     (tie.spec
     Inv-loop
     μ-loop
-    unit-table-requires
     loop-holds
     read-step-requires
     mul-out

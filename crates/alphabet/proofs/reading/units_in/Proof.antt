@@ -5,7 +5,7 @@ use Prim.Native.Nat.{_+_, _-_, _≤_}
 use native.Mathlib.Omega.{arith}
 use lib.ListN.{length, drop}
 use borrow.Author.Needs.{needs}
-use Rattle.alphabet.specs.Inner.{readAs}
+use Rattle.alphabet.specs.Reading.{readAs}
 use Rattle.alphabet.proofs.Septets.{read-over}
 use Rattle.alphabet.proofs.reading.units_in.Statement.{statement}
 use Rattle.alphabet.proofs.reading.units_in.Tie as tie

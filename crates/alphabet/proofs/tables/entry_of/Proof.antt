@@ -1,7 +1,6 @@
--- `alphabet::tables::entry_of` meets its contract: within the ranges of the tables by their entries, outside them because no printed row lies there.
+-- `alphabet::tables::entry_of` meets its contract: within the ranges of the matches by these, outside them because no printed row lies there.
 -- Assumes nothing.
-use mathlib.Core.Path.{sym, ap, _∙_}
-use native.Mathlib.Nat.{zero-add}
+use mathlib.Core.Path.{sym, ap}
 use native.Mathlib.Omega.{arith}
 use borrow.Author.Needs.{needs}
 use Rattle.words.specs.Lists.{firstPlace}
@@ -12,11 +11,11 @@ use Rattle.alphabet.proofs.Entries.{between-unlisted, above-unlisted}
 use Rattle.alphabet.proofs.tables.entry_of.Statement.{statement}
 use Rattle.alphabet.proofs.tables.entry_of.Tie as tie
 
-element-copy-out-result : tie.Need-element-copy-out-result
-element-copy-out-result c = search needs
+low-entry-requires : tie.Need-low-entry-requires
+low-entry-requires c κs = search needs
 
 returns : tie.Need-returns
-returns c = let start = c .before .before in start .pre .at (start .args .unit) (c .before .if1 .taken) ∙ ap listedAs (zero-add (start .args .unit))
+returns c = c .low-entry .ensures
 
 returns-2 : tie.Need-returns-2
 unfolding listing
@@ -40,7 +39,7 @@ pub entry-of-spec : {M : Type 1} → statement M
 entry-of-spec =
     tie.close
     (tie.spec
-    element-copy-out-result
+    low-entry-requires
     returns
     returns-2
     greek-entry-requires

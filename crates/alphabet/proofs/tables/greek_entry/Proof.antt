@@ -1,11 +1,13 @@
--- `alphabet::tables::greek_entry` meets its contract: each arm by the printed table, the rest by one computed test over the range.
+-- `alphabet::tables::greek_entry` meets its contract: each arm by the printed table, the rest because the arms are all the listed units of the range.
 -- Assumes nothing.
 use mathlib.Core.Path.{sym, ap}
+use Prim.{Unit}
+use native.Mathlib.Omega.{arith}
 use Rattle.words.specs.Lists.{firstPlace}
 use Rattle.alphabet.specs.Tables.{mainTable, extension, among, beside}
 use Rattle.alphabet.specs.Writing.{listedAs}
 use Rattle.alphabet.specs.Inner.{listing}
-use Rattle.alphabet.proofs.Entries.{greek-unlisted}
+use Rattle.alphabet.proofs.Entries.{none-listed}
 use Rattle.alphabet.proofs.tables.greek_entry.Statement.{statement}
 use Rattle.alphabet.proofs.tables.greek_entry.Tie as tie
 
@@ -50,8 +52,8 @@ unfolding listing listedAs among beside firstPlace mainTable extension
 returns-10 c = sym (ap listedAs (c .match .keys10))
 
 returns-11 : tie.Need-returns-11
-unfolding listing
-returns-11 c = greek-unlisted (c .before .args .unit) (c .before .pre .0) (c .before .pre .1) (c .match .rest)
+unfolding listing listedAs among beside firstPlace mainTable extension
+returns-11 c = none-listed 0x393 23 (c .before .args .unit) Unit (c .before .pre .0) (omega arith) (c .match .rest)
 
 pub greek-entry-spec : {M : Type 1} → statement M
 greek-entry-spec =
