@@ -249,6 +249,7 @@ static void make_text(size_t length) {
   }
   if (strcmp(given.kind, "refused") == 0) given.text[given.units - 1] = 0x4E2D;
   if (strcmp(given.kind, "circumflex") == 0) given.text[given.units - 1] = 0x00EA;
+  if (strcmp(given.kind, "accent") == 0) given.text[given.units - 1] = 0x00E9;
 }
 
 /* To read, and to copy: what the library writes for the text. */
@@ -274,7 +275,7 @@ static void do_text(const char *kind, size_t most, int all) {
   for (size_t i = 0; all ? i <= most : i < lengths_len; i++) {
     size_t length = all ? i : lengths[i];
     if (length > most || (two && length % 2 != 0) || (two && length == 0)) continue;
-    if (is_refused(kind) && length == 0) continue;
+    if ((is_refused(kind) || strcmp(kind, "accent") == 0) && length == 0) continue;
     make_text(length);
     write_octets();
     do_case();
@@ -402,6 +403,7 @@ int main(int words_len, char **words) {
     given.alphabet = 0;
     for (given.service = SMS; given.service <= USSD; given.service++) {
       do_text("letters", most[given.service], all);
+      do_text("accent", most[given.service], all);
       do_text("extension", most[given.service], all);
       do_text("euro", most[given.service], all);
       if (given.writing) do_text("refused", most[given.service], all);
