@@ -22,15 +22,15 @@ use Rattle.coding.specs.declared.OctetRead.the-variants as octet-read
 use Rattle.coding.specs.declared.OctetWritten.the-variants as octet-written
 use Rattle.coding.specs.OctetRead.{readUnder, octetReads, octetRules}
 use Rattle.coding.specs.OctetWritten.{smallest, octetWrites, writeRules as codingRules}
-use Rattle.coding.specs.Holding.{isData, textRules}
+use Rattle.coding.specs.Holding.{isUcs2, isData, textRules}
 use Rattle.coding.proofs.Theorems.{settled, write-read, write-complete}
 use Rattle.alphabet.specs.Writing.{firstUnlisted}
 use Rattle.message.specs.declared.MessageRead.{MessageRead}
 use Rattle.message.specs.declared.MessageRead.the-variants as read
 use Rattle.message.specs.declared.MessageWritten.{MessageWritten}
 use Rattle.message.specs.declared.MessageWritten.the-variants as written
-use Rattle.message.specs.MessageRead.{fitsReading, textOfMessage, lengthRules, readRules, readAnswers, readLeaves}
-use Rattle.message.specs.MessageWritten.{notCodable, overSize, messageOctets, messageCount, sizeRules, writeRules, writeAnswers, writeLeaves}
+use Rattle.message.specs.MessageRead.{textLengthRules, fitsReading, textOfMessage, lengthRules, readRules, readAnswers, readLeaves}
+use Rattle.message.specs.MessageWritten.{textSizeRules, notCodable, overSize, messageOctets, messageCount, sizeRules, writeRules, writeAnswers, writeLeaves}
 use Rattle.message.proofs.Steps.{octet-verdict, coding-verdict, read-given}
 
 -- a reading that holds text: not compressed, neither 8-bit nor WAP, no prefix mark
@@ -44,8 +44,8 @@ pub record Writable (service : Service) (r : Reading) (t : List ℕ) (room : ℕ
   pub plain : r .reserved ≡ false
   pub octet : (o : ℕ) × ((o < 256) × (octetReads service o ≡ octet-read.Done r))
   pub holds : HoldsText r
-  pub codable : notCodable r t ≡ false
-  pub sized : overSize service r t ≡ false
+  pub codable : notCodable (isUcs2 (r .alphabet)) t ≡ false
+  pub sized : overSize service (isUcs2 (r .alphabet)) t ≡ false
   pub fits : length (messageOctets service r t) ≤ room
 
 pub record Readable (service : Service) (coding count : ℕ) (o : List ℕ) (room : ℕ) (r : Reading) : Type 0 where
@@ -79,7 +79,7 @@ write-verdict service r t room a e =
 
 module _ (service : Service) (r : Reading) (t : List ℕ) where
   size-accepts : (room : ℕ) → Writable service r t room → verdict (sizeRules service r t room) ≡ accepted
-  unfolding sizeRules verdict
+  unfolding textSizeRules verdict
   size-accepts room w = simp (w .codable, w .sized, le-ltb _ _ (w .fits))
 
   rules-accept : (room : ℕ) → Writable service r t room → verdict (writeRules service r t room) ≡ accepted
@@ -96,14 +96,14 @@ module _ (service : Service) (r : Reading) (t : List ℕ) where
   write-accepts out w = (settle-given _ written.Refused _ (rules-accept (length out) w), settle-given _ (λ q. out) _ (rules-accept (length out) w))
 
   pub write-accepted : (room octets count coding : ℕ) → writeAnswers service r t room ≡ written.Done octets count coding → Writable service r t room
-  unfolding writeRules sizeRules octetWrites
+  unfolding writeRules textSizeRules octetWrites
   write-accepted room octets count coding e =
       let v = accepted-parts (codingRules service r) (textRules r ++ sizeRules service r t room) (write-verdict service r t room (written.Done octets count coding) (sym e)) in
       let w = accepted-parts (textRules r) (sizeRules service r t room) (v .1) in
       let o : octetWrites service r ≡ octet-written.Done (smallest service r) = settle-given (verdict (codingRules service r)) octet-written.Refused (octet-written.Done (smallest service r)) (v .0) in
       let s = settled service r (smallest service r) o in
-      let six = accepted-rule (notCodable r t) (Unlisted (firstUnlisted t)) (when (overSize service r t) TooLong ∷ when (ltb room (length (messageOctets service r t))) NoRoom ∷ []) (w .1) in
-      let five = accepted-rule (overSize service r t) TooLong (when (ltb room (length (messageOctets service r t))) NoRoom ∷ []) (six .1) in
+      let six = accepted-rule (notCodable (isUcs2 (r .alphabet)) t) (Unlisted (firstUnlisted t)) (when (overSize service (isUcs2 (r .alphabet)) t) TooLong ∷ when (ltb room (length (messageOctets service r t))) NoRoom ∷ []) (w .1) in
+      let five = accepted-rule (overSize service (isUcs2 (r .alphabet)) t) TooLong (when (ltb room (length (messageOctets service r t))) NoRoom ∷ []) (six .1) in
       let seven = accepted-rule (ltb room (length (messageOctets service r t))) NoRoom [] (five .1) in
       record {
         new = s .new;
@@ -128,7 +128,7 @@ read-verdict service coding count o room a e =
 
 module _ (service : Service) (coding count : ℕ) (o : List ℕ) (r : Reading) where
   length-accepts : (room : ℕ) → Readable service coding count o room r → verdict (lengthRules service r count o room) ≡ accepted
-  unfolding lengthRules verdict
+  unfolding textLengthRules verdict
   length-accepts room w = simp (w .sized, le-ltb _ _ (w .fits))
 
   all-accept : (room : ℕ) → Readable service coding count o room r → verdict (readRules service coding count o room) ≡ accepted
@@ -150,7 +150,7 @@ module _ (service : Service) (coding count : ℕ) (o : List ℕ) (r : Reading) w
       )
 
 pub read-accepted : (service : Service) (coding count : ℕ) (o : List ℕ) (room units : ℕ) (r : Reading) → readAnswers service coding count o room ≡ read.Done units r → Readable service coding count o room (readUnder service coding)
-unfolding readRules lengthRules octetReads
+unfolding readRules textLengthRules octetReads
 read-accepted service coding count o room units r e =
     let x : Reading = readUnder service coding in
     let v = accepted-parts (octetRules service coding) (textRules x ++ lengthRules service x count o room) (read-verdict service coding count o room (read.Done units r) (sym e)) in

@@ -33,8 +33,8 @@ use Rattle.message.specs.declared.MessageRead.{MessageRead}
 use Rattle.message.specs.declared.MessageRead.the-variants as read
 use Rattle.message.specs.declared.MessageWritten.{MessageWritten}
 use Rattle.message.specs.declared.MessageWritten.the-variants as written
-use Rattle.message.specs.MessageRead.{lengthRules, readRules, readAnswers, readLeaves}
-use Rattle.message.specs.MessageWritten.{sizeRules, writeRules, writeAnswers, writeLeaves}
+use Rattle.message.specs.MessageRead.{textLengthRules, readRules, readAnswers, readLeaves}
+use Rattle.message.specs.MessageWritten.{textSizeRules, writeRules, writeAnswers, writeLeaves}
 
 abbrev pub same : List ℕ → List ℕ → Bool
 same [] [] = true
@@ -113,5 +113,5 @@ cases =
     ∷ []
 
 pub cases-hold : T (allHold cases)
-unfolding allHold holds cases times wrote was said coded writeAnswers writeLeaves readAnswers readLeaves verdict writeRules readRules lengthRules sizeRules codingRules textRules octetRules octetReads octetWrites smallest firstPlace numbersFrom readShort readPage bitsOf gather bitOf generalReading noticeReading lastReading classIn discardIn storeIn septetsOf listedAs among beside mainTable extension mainUnit afterEscape textOf textEscaped packed unpacked streamBit cut octetsFor ussdOctets closed addsCr last ussdSeptets opened dropsCr pageOctets page laid withoutClosing beforeKept
+unfolding allHold holds cases times wrote was said coded writeAnswers writeLeaves readAnswers readLeaves verdict writeRules readRules textLengthRules textSizeRules codingRules textRules octetRules octetReads octetWrites smallest firstPlace numbersFrom readShort readPage bitsOf gather bitOf generalReading noticeReading lastReading classIn discardIn storeIn septetsOf listedAs among beside mainTable extension mainUnit afterEscape textOf textEscaped packed unpacked streamBit cut octetsFor ussdOctets closed addsCr last ussdSeptets opened dropsCr pageOctets page laid withoutClosing beforeKept
 cases-hold = tt

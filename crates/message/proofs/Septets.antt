@@ -1,83 +1,78 @@
--- 7-bit text: septets fit the array of 182 that the code has of its own, whatever the service, so that a septet run read from it or
+-- 7-bit text: septets fit the array of 184 that the code has of its own, whatever the service, so that a septet run read from it or
 -- packed from it is the definition's.
 -- Assumes nothing.
 use mathlib.Core.Path.{_≡_, refl, ap, ap₂, _∙_, sym, subst}
-use mathlib.Core.Bool.{Bool, true, false}
-use mathlib.Core.List.{List}
-use Prim.Native.Nat.{ℕ, _≤_, _<_}
+use mathlib.Core.Bool.{Bool, true, false, cond}
+use mathlib.Core.List.{List, [], _∷_, _++_}
+use Prim.Native.Nat.{ℕ, zero, suc, _+_, _-_, _*_, _/_, _%_, _≤_, _<_}
 use native.Mathlib.Decide.{decLe}
 use native.Mathlib.Omega.{arith}
-use lib.Dec.{leb, eqb, lit≤}
-use lib.ListN.{length, getD, take}
-use lib.Seq.{take-append-le, take-length}
-use borrow.Author.Tests.{lt-ltb, le-ltb, lt-leb, leb-true}
+use lib.Dec.{T, leb, eqb, lit≤}
+use lib.ListN.{length, getD, take, drop, set, replicate, length-append, take-append-drop}
+use lib.Seq.{take-append-le, take-all, length-take-le, getD-take, set-split, append-snoc, take-append-seam, drop-append-add}
+use borrow.Author.Tests.{lt-ltb, le-ltb, leb-true}
 use Rattle.words.specs.declared.Service.{Service}
 use Rattle.words.specs.declared.Service.the-variants.{ShortMessage, Broadcast, Ussd, OldPage}
 use Rattle.words.specs.declared.Refusal.{Refusal}
-use Rattle.words.specs.declared.Refusal.the-variants.{WrongLength, Unlisted, NoRoom}
+use Rattle.words.specs.declared.Refusal.the-variants.{WrongLength, Unlisted, TooLong, Unwritable}
 use Rattle.words.specs.declared.Filled.the-variants.{Done, Refused}
 use Rattle.words.specs.Sizes.{mostSeptets, isOldPage}
-use Rattle.words.specs.Lists.{firstPlace, laid}
-use Rattle.words.specs.Closing.{withoutClosing}
-use Rattle.words.specs.Judging.{Verdict, refused, accepted, verdict, settle}
+use Rattle.words.specs.Lists.{laid}
+use Rattle.words.specs.Judging.{when, Verdict, refused, accepted, verdict, settle}
 use Rattle.words.proofs.Below.{Below}
-use Rattle.words.proofs.Closing.{closing-front, closing-length}
-use Rattle.words.proofs.Laid.{laid-length}
+use Rattle.words.proofs.Laid.{Laying, lay-left, lay-one, laid-length}
 use Rattle.words.proofs.Tests.{and-left}
-use Rattle.words.proofs.Places.{place-none}
-use Rattle.alphabet.specs.Writing.{septetsOf as septetsOf′, firstUnlisted, septetsRules, septetsAnswers, septetsLeaves}
-use Rattle.alphabet.specs.Reading.{textRules, textAnswers, textLeaves}
+use Rattle.alphabet.specs.declared.Encoded.{Encoded}
+use Rattle.alphabet.specs.Writing.{septetsOf as septetsOf′, firstUnlisted, listedFront, encodedAs, encodedLeaves}
+use Rattle.alphabet.specs.Reading.{textOf, oldTextOf, readAs, showRules, showAnswers, showLeaves}
 use Rattle.alphabet.proofs.Theorems.{septets-below}
-use Rattle.stream.specs.Stream.{octetsFor, unpacked}
-use Rattle.stream.specs.Pages.{pageSeptets}
-use Rattle.stream.specs.OldPage.{oldPageSeptets}
-use Rattle.stream.proofs.Stream.{unpacked-length, unpacked-take, unpacked-below}
-use Rattle.stream.proofs.Ussd.{kept-octets, kept-septets}
-use Rattle.packing.specs.SeptetCalls.{septetsFit, septetsOf, packRules, packAnswers, packLeaves, unpackRules, unpackAnswers, unpackLeaves}
+use Rattle.stream.specs.Stream.{octetsFor, packed}
+use Rattle.stream.specs.UssdPacking.{last, addsCr, withCr, closed, ussdOctets}
+use Rattle.stream.specs.Pages.{page, pageOctets}
+use Rattle.stream.proofs.Stream.{packed-length, unpacked-length}
+use Rattle.stream.proofs.Pages.{page-length, page-below}
+use Rattle.stream.proofs.Ussd.{with-cr-below}
+use Rattle.packing.specs.SeptetCalls.{septetsFit, septetsOf, octetsOf, countOf}
+use Rattle.packing.specs.ArrayCalls.{lowBits, arrayRules, arrayAnswers, arrayLeaves, allSeptets, allRules, allAnswers, allLeaves}
 use Rattle.packing.proofs.Calls.{fit-ussd}
-use Rattle.packing.specs.declared.Packed.the-variants as packed
+use Rattle.packing.proofs.Arrays.{kept-front, array-packed}
 use Rattle.message.specs.declared.MessageWritten.the-variants as written
-use Rattle.message.specs.MessageRead.{shownSeptets}
-use Rattle.message.specs.Inner.{septetReadRules, septetReads, septetReadLeaves, septetWriteRules, septetWrites, septetWriteLeaves, packedAs, asTooLong}
+use Rattle.message.specs.MessageRead.{shownSeptets, textLengthRules, textReads, textReadLeaves}
+use Rattle.message.specs.MessageWritten.{textSizeRules, textWrites, textWriteLeaves}
+use Rattle.message.specs.Inner.{closedSeptets, septetCount, septetsAs}
+use Rattle.message.proofs.Steps.{write-agree, leaves-agree}
 
 -- ---- reading
 
--- the septets of octets are the first of their stream, under every service
-closed-run : (x : ℕ) (o : List ℕ) → withoutClosing x (unpacked 93 o) ≡ unpacked (length (withoutClosing x (unpacked 93 o))) o
-closed-run x o =
-    let most : length (withoutClosing x (unpacked 93 o)) ≤ 93 = omega (arith, closing-length x (unpacked 93 o), unpacked-length 93 o) in
-    sym (closing-front x (unpacked 93 o)) ∙ unpacked-take 93 (length (withoutClosing x (unpacked 93 o))) o most
+-- all the septets fit the array too
+all-most : (service : Service) (count : ℕ) (o : List ℕ) → septetsFit service (length o) count ≡ true → length (allSeptets service count o) ≤ 184
+unfolding octetsFor
+all-most ShortMessage count o e = omega (arith, unpacked-length count o, leb-true count 160 (and-left (leb count 160) (eqb (length o) (octetsFor count)) e))
+all-most Broadcast count o e = omega (arith, unpacked-length 93 o)
+all-most Ussd count o e = omega (arith, unpacked-length (8 * length o / 7) o, fit-ussd (length o) count e)
+all-most OldPage count o e = omega (arith, unpacked-length 93 o)
 
-septets-run : (service : Service) (count : ℕ) (o : List ℕ) → Below 256 o → septetsOf service count o ≡ unpacked (length (septetsOf service count o)) o
-unfolding pageSeptets oldPageSeptets
-septets-run ShortMessage count o h = ap (λ (n : ℕ). unpacked n o) (sym (unpacked-length count o))
-septets-run Broadcast count o h = closed-run 13 o
-septets-run Ussd count o h = sym (kept-septets o)
-septets-run OldPage count o h = closed-run 0 o
+-- what is kept is no more than all
+kept-most : (service : Service) (count : ℕ) (o : List ℕ) → length (septetsOf service count o) ≤ length (allSeptets service count o)
+kept-most service count o =
+    elim (decLe (length (septetsOf service count o)) (length (allSeptets service count o))) [
+      | yes h ↦ h
+      | no h ↦ let e = ap length (sym (kept-front service count o) ∙ take-all (length (septetsOf service count o)) (allSeptets service count o) (omega arith)) in omega arith
+    ]
 
-pub read-below : (service : Service) (count : ℕ) (o : List ℕ) → Below 256 o → Below 128 (septetsOf service count o)
-read-below service count o h = subst (Below 128) (sym (septets-run service count o h)) (unpacked-below (length (septetsOf service count o)) o h)
-
-pub read-most : (service : Service) (count : ℕ) (o : List ℕ) → Below 256 o → septetsFit service (length o) count ≡ true → length (septetsOf service count o) ≤ 182
-unfolding pageSeptets oldPageSeptets octetsFor
-read-most ShortMessage count o h e = omega (arith, unpacked-length count o, leb-true count 160 (and-left (leb count 160) (eqb (length o) (octetsFor count)) e))
-read-most Broadcast count o h e = omega (arith, closing-length 13 (unpacked 93 o), unpacked-length 93 o)
-read-most Ussd count o h e = omega (arith, kept-octets o, fit-ussd (length o) count e)
-read-most OldPage count o h e = omega (arith, closing-length 0 (unpacked 93 o), unpacked-length 93 o)
-
--- what unpacking into the array tells: the octets do not fit, or the run of septets stands at its front
-module _ (service : Service) (count : ℕ) (o array : List ℕ) (h : Below 256 o) (n : length array ≡ 182) where
-  unfit-answers : septetsFit service (length o) count ≡ false → unpackAnswers service o count (length array) ≡ Refused WrongLength
-  unfolding unpackAnswers unpackRules verdict
+-- what unpacking into the array tells: the octets do not fit, or the septets that are kept stand at its front
+module _ (service : Service) (count : ℕ) (o array : List ℕ) (n : length array ≡ 184) where
+  unfit-answers : septetsFit service (length o) count ≡ false → allAnswers service o count (length array) ≡ Refused WrongLength
+  unfolding allAnswers allRules verdict
   unfit-answers e = simp e
 
-  fit-answers : septetsFit service (length o) count ≡ true → unpackAnswers service o count (length array) ≡ Done (length (septetsOf service count o))
-  unfolding unpackAnswers unpackRules verdict
-  fit-answers e = let room : length (septetsOf service count o) ≤ length array = omega (arith, read-most service count o h e) in simp (e, le-ltb _ _ room)
+  fit-answers : septetsFit service (length o) count ≡ true → allAnswers service o count (length array) ≡ Done (length (septetsOf service count o))
+  unfolding allAnswers allRules verdict
+  fit-answers e = let room : length (allSeptets service count o) ≤ length array = omega (arith, all-most service count o e) in simp (e, le-ltb _ _ room)
 
-  fit-leaves : septetsFit service (length o) count ≡ true → unpackLeaves service o count array ≡ laid (septetsOf service count o) array
-  unfolding unpackLeaves unpackRules verdict
-  fit-leaves e = let room : length (septetsOf service count o) ≤ length array = omega (arith, read-most service count o h e) in simp (e, le-ltb _ _ room)
+  fit-leaves : septetsFit service (length o) count ≡ true → allLeaves service o count array ≡ laid (allSeptets service count o) array
+  unfolding allLeaves allRules verdict
+  fit-leaves e = let room : length (allSeptets service count o) ≤ length array = omega (arith, all-most service count o e) in simp (e, le-ltb _ _ room)
 
   by-fit : {A : Type 0} → (septetsFit service (length o) count ≡ true → A) → (septetsFit service (length o) count ≡ false → A) → A
   by-fit {A} f g = go (septetsFit service (length o) count) refl
@@ -86,33 +81,34 @@ module _ (service : Service) (count : ℕ) (o array : List ℕ) (h : Below 256 o
       go true e = f e
       go false e = g e
 
-  pub unpacked-fits : (k : ℕ) → Done k ≡ unpackAnswers service o count (length array) → septetsFit service (length o) count ≡ true
+  pub unpacked-fits : (k : ℕ) → Done k ≡ allAnswers service o count (length array) → septetsFit service (length o) count ≡ true
   unpacked-fits k e = by-fit (λ (f : septetsFit service (length o) count ≡ true). f) (λ (g : septetsFit service (length o) count ≡ false). absurd (done-or-refused k (e ∙ unfit-answers g)))
     where
       done-or-refused : (k : ℕ) → Done k ≡ Refused WrongLength → ⊥
       done-or-refused k e = let z : _≡_ {A = ℕ} 0 1 = cc in omega arith
 
-  pub unpacked-count : (k : ℕ) → Done k ≡ unpackAnswers service o count (length array) → k ≡ length (septetsOf service count o)
+  unpacked-count : (k : ℕ) → Done k ≡ allAnswers service o count (length array) → k ≡ length (septetsOf service count o)
   unpacked-count k e = let d : Done k ≡ Done (length (septetsOf service count o)) = e ∙ fit-answers (unpacked-fits k e) in cc
 
-  pub unpacked-run : (k : ℕ) (left : List ℕ) → Done k ≡ unpackAnswers service o count (length array) → left ≡ unpackLeaves service o count array → take k left ≡ septetsOf service count o
+  pub unpacked-run : (k : ℕ) (left : List ℕ) → Done k ≡ allAnswers service o count (length array) → left ≡ allLeaves service o count array → take k left ≡ septetsOf service count o
   unfolding laid
   unpacked-run k left e l =
-      let s : List ℕ = septetsOf service count o in
-      let all : left ≡ laid s array = l ∙ fit-leaves (unpacked-fits k e) in
-      ap₂ take (unpacked-count k e) all ∙ take-append-le (length s) s _ (omega arith) ∙ take-length s
+      let s : List ℕ = allSeptets service count o in
+      ap₂ take (unpacked-count k e) (l ∙ fit-leaves (unpacked-fits k e))
+      ∙ take-append-le (length (septetsOf service count o)) s _ (kept-most service count o)
+      ∙ kept-front service count o
 
-  pub unpacked-room : (k : ℕ) (left : List ℕ) → Done k ≡ unpackAnswers service o count (length array) → left ≡ unpackLeaves service o count array → k ≤ length left
+  pub unpacked-room : (k : ℕ) (left : List ℕ) → Done k ≡ allAnswers service o count (length array) → left ≡ allLeaves service o count array → k ≤ length left
   unpacked-room k left e l =
       let f = unpacked-fits k e in
-      let m : length (septetsOf service count o) ≤ 182 = read-most service count o h f in
-      let long : length left ≡ length array = ap length (l ∙ fit-leaves f) ∙ laid-length (septetsOf service count o) array (omega arith) in
-      omega (arith, unpacked-count k e)
+      let m = all-most service count o f in
+      let long : length left ≡ length array = ap length (l ∙ fit-leaves f) ∙ laid-length (allSeptets service count o) array (omega arith) in
+      omega (arith, unpacked-count k e, kept-most service count o)
 
   -- octets that do not fit are refused by the reader of 7-bit text
-  pub unpacked-refused : (q : Refusal) (out : List ℕ) → Refused q ≡ unpackAnswers service o count (length array)
-      → (Refused q ≡ septetReads service count o (length out)) × (out ≡ septetReadLeaves service count o out)
-  unfolding septetReads septetReadLeaves septetReadRules verdict
+  pub unpacked-refused : (q : Refusal) (out : List ℕ) → Refused q ≡ allAnswers service o count (length array)
+      → (Refused q ≡ textReads service false count o (length out)) × (out ≡ textReadLeaves service false count o out)
+  unfolding textReads textReadLeaves textLengthRules verdict
   unpacked-refused q out e =
       by-fit
       (λ (f : septetsFit service (length o) count ≡ true). absurd (refused-or-done q (e ∙ fit-answers f)))
@@ -121,117 +117,212 @@ module _ (service : Service) (count : ℕ) (o array : List ℕ) (h : Below 256 o
       refused-or-done : (q : Refusal) → Refused q ≡ Done (length (septetsOf service count o)) → ⊥
       refused-or-done q e = let z : _≡_ {A = ℕ} 0 1 = cc in omega arith
 
--- septets below 128 are never refused 9
-pub none-wide : (s : List ℕ) → Below 128 s → firstPlace (λ x. leb 128 x) s ≡ length s
-none-wide s h = place-none (λ x. leb 128 x) s (λ k l. lt-leb 128 (getD s k 0) (h k))
+-- the alphabet of a service
+read-as : (old : Bool) (s : List ℕ) → readAs old s ≡ cond old (oldTextOf s) (textOf s)
+unfolding readAs
+read-as true s = refl
+read-as false s = refl
 
 -- reading the run by the alphabet is reading the octets
-shown-run : (service : Service) (count : ℕ) (o out : List ℕ) → Below 256 o → septetsFit service (length o) count ≡ true
-    → (textAnswers (septetsOf service count o) (shownSeptets service (septetsOf service count o)) (length out) ≡ septetReads service count o (length out))
-    × (textLeaves (septetsOf service count o) (shownSeptets service (septetsOf service count o)) out ≡ septetReadLeaves service count o out)
-unfolding textAnswers textLeaves textRules septetReads septetReadLeaves septetReadRules verdict
-shown-run service count o out h f =
-    let s : List ℕ = septetsOf service count o in
-    let wide : firstPlace (λ x. leb 128 x) s ≡ length s = none-wide s (read-below service count o h) in
-    simp (f, le-ltb (firstPlace (λ x. leb 128 x) s) (length s) (omega arith)) (refl, refl)
+shown-run : (service : Service) (count : ℕ) (o out : List ℕ) → septetsFit service (length o) count ≡ true → (text : List ℕ) → text ≡ shownSeptets service (septetsOf service count o)
+    → (showAnswers text (length out) ≡ textReads service false count o (length out)) × (showLeaves text out ≡ textReadLeaves service false count o out)
+unfolding showAnswers showLeaves showRules textReads textReadLeaves textLengthRules verdict
+shown-run service count o out f text e = simp (f, e) (refl, refl)
 
-pub shown-reads : (service : Service) (count : ℕ) (o out : List ℕ) → Below 256 o → septetsFit service (length o) count ≡ true → (s : List ℕ) → s ≡ septetsOf service count o
-    → (textAnswers s (shownSeptets service s) (length out) ≡ septetReads service count o (length out)) × (textLeaves s (shownSeptets service s) out ≡ septetReadLeaves service count o out)
-shown-reads service count o out h f s e =
-    subst (λ (s : List ℕ). (textAnswers s (shownSeptets service s) (length out) ≡ septetReads service count o (length out)) × (textLeaves s (shownSeptets service s) out ≡ septetReadLeaves service count o out))
-    (sym e) (shown-run service count o out h f)
+pub shown-reads : (service : Service) (count : ℕ) (o out : List ℕ) → septetsFit service (length o) count ≡ true → (s : List ℕ) → s ≡ septetsOf service count o
+    → (old : Bool) → old ≡ isOldPage service
+    → (showAnswers (readAs old s) (length out) ≡ textReads service false count o (length out)) × (showLeaves (readAs old s) out ≡ textReadLeaves service false count o out)
+shown-reads service count o out f s e old p = shown-run service count o out f (readAs old s) (ap₂ readAs p e ∙ read-as (isOldPage service) (septetsOf service count o))
 
 -- ---- writing
 
 -- the array has room for every service
-pub most-182 : (service : Service) → mostSeptets service ≤ 182
+most-182 : (service : Service) → mostSeptets service ≤ 182
 most-182 ShortMessage = lit≤ tt
 most-182 Broadcast = lit≤ tt
 most-182 Ussd = lit≤ tt
 most-182 OldPage = lit≤ tt
 
-packed-settle : (v : Verdict) (m n coding : ℕ) → packedAs coding (settle v packed.Refused (packed.Done m n)) ≡ settle v written.Refused (written.Done m n coding)
-packed-settle (refused q) m n coding = refl
-packed-settle accepted m n coding = refl
+-- what the service adds goes behind the text, and fits the array
+closed-length : (service : Service) (s : List ℕ) → length s ≤ mostSeptets service → (length s ≤ length (closedSeptets service s)) × (length (closedSeptets service s) ≤ 184)
+unfolding closed
+closed-length ShortMessage s h = (omega arith, omega arith)
+closed-length Broadcast s h = let e = page-length s h in (omega arith, omega arith)
+closed-length Ussd s h = with-length (addsCr s)
+  where
+    with-length : (b : Bool) → (length s ≤ length (withCr b s)) × (length (withCr b s) ≤ 184)
+    with-length true = let e : length (s ++ 13 ∷ []) ≡ length s + 1 = length-append s (13 ∷ []) in (omega arith, omega arith)
+    with-length false = (omega arith, omega arith)
+closed-length OldPage s h = (omega arith, omega arith)
 
-module _ (units array : List ℕ) (n : length array ≡ 182) where
-  -- what the alphabet says of a text: a unit is unlisted, the array is too short, or the septets stand at its front
-  stopped-answers : firstUnlisted units < length units → septetsAnswers units (length array) ≡ Refused (Unlisted (firstUnlisted units))
-  unfolding septetsAnswers septetsRules verdict
-  stopped-answers l = simp (lt-ltb _ _ l)
+closed-below : (service : Service) (s : List ℕ) → Below 128 s → Below 128 (closedSeptets service s)
+unfolding closed
+closed-below ShortMessage s b = b
+closed-below Broadcast s b = page-below s b
+closed-below Ussd s b = with-cr-below (addsCr s) s b
+closed-below OldPage s b = b
 
-  short-answers : length units ≤ firstUnlisted units → length array < length (septetsOf′ units) → septetsAnswers units (length array) ≡ Refused NoRoom
-  unfolding septetsAnswers septetsRules verdict
-  short-answers l m = simp (le-ltb _ _ l, lt-ltb _ _ m)
+closed-octets : (service : Service) (s : List ℕ) → isOldPage service ≡ false → packed (closedSeptets service s) ≡ octetsOf service s
+unfolding pageOctets ussdOctets
+closed-octets ShortMessage s new = refl
+closed-octets Broadcast s new = refl
+closed-octets Ussd s new = refl
+closed-octets OldPage s new = absurd (subst T new tt)
 
-  whole-answers : length units ≤ firstUnlisted units → length (septetsOf′ units) ≤ length array → septetsAnswers units (length array) ≡ Done (length (septetsOf′ units))
-  unfolding septetsAnswers septetsRules verdict
-  whole-answers l m = simp (le-ltb _ _ l, le-ltb _ _ m)
+count-of : (service : Service) (s : List ℕ) → countOf service s ≡ septetCount service (length s)
+count-of ShortMessage s = refl
+count-of Broadcast s = refl
+count-of Ussd s = refl
+count-of OldPage s = refl
 
-  whole-leaves : length units ≤ firstUnlisted units → length (septetsOf′ units) ≤ length array → septetsLeaves units array ≡ laid (septetsOf′ units) array
-  unfolding septetsLeaves septetsRules verdict
-  whole-leaves l m = simp (le-ltb _ _ l, le-ltb _ _ m)
+septets-settle : (v : Verdict) (m n : ℕ) (service : Service) (coding : ℕ) → septetsAs service coding n (settle v Refused (Done m)) ≡ settle v written.Refused (written.Done m (septetCount service n) coding)
+septets-settle (refused q) m n service coding = refl
+septets-settle accepted m n service coding = refl
 
-  by-text : {A : Type 0} → (firstUnlisted units < length units → A) → (length units ≤ firstUnlisted units → length array < length (septetsOf′ units) → A)
-      → (length units ≤ firstUnlisted units → length (septetsOf′ units) ≤ length array → A) → A
-  by-text f g h =
-      elim (decLe (length units) (firstUnlisted units)) [
-        | no l ↦ f (omega arith)
-        | yes l ↦ elim (decLe (length (septetsOf′ units)) (length array)) [ no m ↦ g l (omega arith) | yes m ↦ h l m ]
-      ]
+left-of : (x k n : ℕ) → drop k (replicate n x) ≡ replicate (n - k) x
+left-of x zero n = let e : n ≡ n - 0 = omega arith in ap (λ (m : ℕ). replicate m x) e
+left-of x (suc k) zero = let e : 0 ≡ 0 - suc k = omega arith in ap (λ (m : ℕ). replicate m x) e
+left-of x (suc k) (suc n) = let e : n - k ≡ suc n - suc k = omega arith in left-of x k n ∙ ap (λ (m : ℕ). replicate m x) e
 
-  done-or-refused : (k : ℕ) (q : Refusal) → Done k ≡ Refused q → ⊥
-  done-or-refused k q e = let z : _≡_ {A = ℕ} 0 1 = cc in omega arith
+-- the first n septets of an array
+pub front-over : (n : ℕ) (s : List ℕ) → n ≤ length s → length (take n s) % 8 ≡ n % 8
+front-over n s h = ap (λ (k : ℕ). k % 8) (length-take-le n s h)
 
-  pub written-whole : (k : ℕ) → Done k ≡ septetsAnswers units (length array) → (length units ≤ firstUnlisted units) × (length (septetsOf′ units) ≤ length array)
-  written-whole k e =
-      by-text (λ l. absurd (done-or-refused k (Unlisted (firstUnlisted units)) (e ∙ stopped-answers l))) (λ l m. absurd (done-or-refused k NoRoom (e ∙ short-answers l m))) (λ l m. (l, m))
+pub front-last : (n : ℕ) (s : List ℕ) → n ≤ length s → 0 < n → last (take n s) ≡ getD s (n - 1) 0
+unfolding last
+front-last n s h more = ap (λ (k : ℕ). getD (take n s) (k - 1) 0) (length-take-le n s h) ∙ getD-take n s (n - 1) 0 (omega arith)
 
-  pub written-count : (k : ℕ) → Done k ≡ septetsAnswers units (length array) → k ≡ length (septetsOf′ units)
-  written-count k e =
-      let w = written-whole k e in
-      let d : Done k ≡ Done (length (septetsOf′ units)) = e ∙ whole-answers (w .0) (w .1) in
-      cc
+pub closed-added : (n : ℕ) (s : List ℕ) → n < length s → addsCr (take n s) ≡ true
+    → (n + 1 ≡ length (closed (take n s))) × (set s n 13 ≡ laid (closed (take n s)) s)
+unfolding closed laid
+closed-added n s h e =
+    let long : length (take n s ++ 13 ∷ []) ≡ n + 1 = length-append (take n s) (13 ∷ []) ∙ ap (λ (k : ℕ). k + 1) (length-take-le n s (omega arith)) in
+    let next : length (take n s ++ 13 ∷ []) ≡ suc n = omega arith in
+    simp e (sym long, set-split s n 13 h ∙ sym (ap (λ (k : ℕ). (take n s ++ 13 ∷ []) ++ drop k s) next ∙ append-snoc (take n s) 13 (drop (suc n) s)))
 
-  pub written-run : (k : ℕ) (left : List ℕ) → Done k ≡ septetsAnswers units (length array) → left ≡ septetsLeaves units array → take k left ≡ septetsOf′ units
+laid-own : (n : ℕ) (s : List ℕ) → n ≤ length s → s ≡ laid (take n s) s
+unfolding laid
+laid-own n s h = sym (ap (λ (k : ℕ). take n s ++ drop k s) (length-take-le n s h) ∙ take-append-drop n s)
+
+pub closed-same : (n : ℕ) (s : List ℕ) → n ≤ length s → addsCr (take n s) ≡ false
+    → (n ≡ length (closed (take n s))) × (s ≡ laid (closed (take n s)) s)
+unfolding closed
+closed-same n s h e = simp e (sym (length-take-le n s h), laid-own n s h)
+
+pub closed-none : (service plain : Service) → service ≡ plain → closedSeptets plain ≡ (λ (s : List ℕ). s) → (n : ℕ) (s : List ℕ) → n ≤ mostSeptets service → length s ≡ 184
+    → (n ≡ length (closedSeptets service (take n s))) × (s ≡ laid (closedSeptets service (take n s)) s)
+closed-none service plain p q n s m long =
+    let h : n ≤ length s = omega (arith, most-182 service) in
+    let e : closedSeptets service (take n s) ≡ take n s = ap (λ (v : Service). closedSeptets v (take n s)) p ∙ ap (λ (f : List ℕ → List ℕ). f (take n s)) q in
+    (sym (ap length e ∙ length-take-le n s h), laid-own n s h ∙ sym (ap (λ (t : List ℕ). laid t s) e))
+
+-- laying the CRs of a page behind its text
+page-is : (t : List ℕ) → t ++ replicate (93 - length t) 13 ≡ page t
+unfolding page laid
+page-is t = ap (λ (z : List ℕ). t ++ z) (sym (left-of 13 (length t) 93))
+
+pub page-start : (n : ℕ) (s : List ℕ) → n ≤ 93 → n ≤ length s → Laying s (page (take n s)) (replicate (93 - n) 13) n s
+page-start n s h l =
+    record {
+      here = l;
+      long = refl;
+      done = ap (λ (k : ℕ). take n s ++ replicate (93 - k) 13) (sym (length-take-le n s l)) ∙ page-is (take n s);
+      kept = refl;
+    }
+
+pub page-step : (n : ℕ) (s : List ℕ) (i : ℕ) → n ≤ 93 → 93 ≤ length s → i < 93 → {out : List ℕ} → Laying s (page (take n s)) (replicate (93 - i) 13) i out
+    → Laying s (page (take n s)) (replicate (93 - (i + 1)) 13) (i + 1) (set out i 13)
+page-step n s i h l here w =
+    let front = length-take-le n s (omega arith) in
+    let e : 93 - i ≡ suc (93 - (i + 1)) = omega arith in
+    lay-one (lay-left w (ap (λ (k : ℕ). replicate k 13) e)) (subst (λ (k : ℕ). k ≤ length s) (sym (page-length (take n s) (omega arith))) l)
+
+-- what the alphabet's answer tells
+pub told-units : (units : List ℕ) (r : Encoded) → r ≡ encodedAs units → r .units ≡ firstUnlisted units
+unfolding encodedAs
+told-units units r e = ap (λ (r : Encoded). r .units) e
+
+pub told-septets : (units : List ℕ) (r : Encoded) → r ≡ encodedAs units → length units ≤ firstUnlisted units → r .septets ≡ length (septetsOf′ units)
+unfolding encodedAs listedFront
+told-septets units r e l = ap (λ (r : Encoded). r .septets) e ∙ ap (λ (u : List ℕ). length (septetsOf′ u)) (take-all (firstUnlisted units) units l)
+
+-- a text that is not refused: its septets, and what the service adds, stand at the front of the array, and zeros behind them
+module _ (service : Service) (units : List ℕ) (l : length units ≤ firstUnlisted units) (m : length (septetsOf′ units) ≤ mostSeptets service) where
+  abbrev text : List ℕ
+  text = septetsOf′ units
+
+  abbrev whole : List ℕ
+  whole = closedSeptets service text
+
+  encoded-array : encodedLeaves units (replicate 184 0) ≡ text ++ replicate (184 - length text) 0
+  unfolding encodedLeaves listedFront laid
+  encoded-array =
+      ap (λ (u : List ℕ). laid (take 184 (septetsOf′ u)) (replicate 184 0)) (take-all (firstUnlisted units) units l)
+      ∙ ap (λ (s : List ℕ). laid s (replicate 184 0)) (take-all 184 text (omega (arith, most-182 service)))
+      ∙ ap (λ (z : List ℕ). text ++ z) (left-of 0 (length text) 184)
+
+  pub encoded-run : (array : List ℕ) → array ≡ encodedLeaves units (replicate 184 0) → take (length text) array ≡ text
+  encoded-run array e = ap (take (length text)) (e ∙ encoded-array) ∙ take-append-seam text (replicate (184 - length text) 0)
+
+  closed-array : (array : List ℕ) → array ≡ encodedLeaves units (replicate 184 0) → laid whole array ≡ whole ++ replicate (184 - length whole) 0
   unfolding laid
-  written-run k left e l =
-      let w = written-whole k e in
-      let s : List ℕ = septetsOf′ units in
-      ap₂ take (written-count k e) (l ∙ whole-leaves (w .0) (w .1)) ∙ take-append-le (length s) s _ (omega arith) ∙ take-length s
+  closed-array array e =
+      let most = closed-length service text m in
+      let d : length text + (length whole - length text) ≡ length whole = omega (arith, most .0) in
+      let rest : (184 - length text) - (length whole - length text) ≡ 184 - length whole = omega (arith, most .0) in
+      ap (λ (z : List ℕ). whole ++ z) (
+      ap (drop (length whole)) (e ∙ encoded-array)
+      ∙ ap (λ (k : ℕ). drop k (text ++ replicate (184 - length text) 0)) (sym d)
+      ∙ drop-append-add text (replicate (184 - length text) 0) (length whole - length text)
+      ∙ left-of 0 (length whole - length text) (184 - length text)
+      ∙ ap (λ (k : ℕ). replicate k 0) rest)
 
-  pub written-room : (k : ℕ) (left : List ℕ) → Done k ≡ septetsAnswers units (length array) → left ≡ septetsLeaves units array → k ≤ length left
-  written-room k left e l =
-      let w = written-whole k e in
-      let fits : length (septetsOf′ units) ≤ length array = w .1 in
-      let long : length left ≡ length array = ap length (l ∙ whole-leaves (w .0) (w .1)) ∙ laid-length (septetsOf′ units) array fits in
-      omega (arith, written-count k e)
+  octets-length : isOldPage service ≡ false → octetsFor (length whole) ≡ length (octetsOf service text)
+  octets-length new = sym (packed-length whole) ∙ ap length (closed-octets service text new)
 
-  -- what the alphabet refuses, the writer of 7-bit text refuses: a text without room in the array is too long for the service
-  pub written-refused : (service : Service) (coding : ℕ) (q : Refusal) (out : List ℕ) → Refused q ≡ septetsAnswers units (length array)
-      → (written.Refused (asTooLong q) ≡ septetWrites service coding units (length out)) × (out ≡ septetWriteLeaves service units out)
-  unfolding septetWrites septetWriteLeaves septetWriteRules verdict
-  written-refused service coding q out e =
-      by-text
-      (λ l. let d : Refused q ≡ Refused (Unlisted (firstUnlisted units)) = e ∙ stopped-answers l in let s : q ≡ Unlisted (firstUnlisted units) = cc in simp (s, lt-ltb _ _ l) (refl, refl))
-      (λ l m. let d : Refused q ≡ Refused NoRoom = e ∙ short-answers l m in let s : q ≡ NoRoom = cc in
-      let over : mostSeptets service < length (septetsOf′ units) = omega (arith, most-182 service) in
-      simp (s, le-ltb _ _ l, lt-ltb _ _ over) (refl, refl))
-      (λ l m. absurd (done-or-refused (length (septetsOf′ units)) q (sym (e ∙ whole-answers l m))))
+  octets-packed : isOldPage service ≡ false → (array : List ℕ) → array ≡ encodedLeaves units (replicate 184 0)
+      → take (octetsFor (length whole)) (packed (lowBits (laid whole array))) ≡ octetsOf service text
+  octets-packed new array e =
+      ap (λ (a : List ℕ). take (octetsFor (length whole)) (packed (lowBits a))) (closed-array array e)
+      ∙ array-packed whole (184 - length whole) (closed-below service text (septets-below units))
+      ∙ closed-octets service text new
 
--- packing the run is writing the text
-packed-run : (service : Service) (coding : ℕ) (units out : List ℕ) → isOldPage service ≡ false → length units ≤ firstUnlisted units
-    → (packedAs coding (packAnswers service (septetsOf′ units) (length out)) ≡ septetWrites service coding units (length out))
-    × (packLeaves service (septetsOf′ units) out ≡ septetWriteLeaves service units out)
-unfolding packAnswers packLeaves packRules septetWrites septetWriteLeaves septetWriteRules verdict
-packed-run service coding units out new l =
-    let s : List ℕ = septetsOf′ units in
-    let wide : firstPlace (λ x. leb 128 x) s ≡ length s = none-wide s (septets-below units) in
-    let high : length s ≤ firstPlace (leb 128) s = omega arith in
-    simp (packed-settle, new, le-ltb (firstPlace (leb 128) s) (length s) high, le-ltb _ _ l) (refl, refl)
+  array-verdict : isOldPage service ≡ false → (room : ℕ) → verdict (when (isOldPage service) Unwritable ∷ textSizeRules service false units room) ≡ verdict (arrayRules (length whole) room)
+  unfolding arrayRules textSizeRules verdict
+  array-verdict new room =
+      let most = closed-length service text m in
+      simp (new, le-ltb _ _ l, le-ltb _ _ m, le-ltb 184 (length whole) (most .1), octets-length new)
 
-pub packed-writes : (service : Service) (coding : ℕ) (units out : List ℕ) → isOldPage service ≡ false → length units ≤ firstUnlisted units → (s : List ℕ) → s ≡ septetsOf′ units
-    → (packedAs coding (packAnswers service s (length out)) ≡ septetWrites service coding units (length out)) × (packLeaves service s out ≡ septetWriteLeaves service units out)
-packed-writes service coding units out new l s e =
-    subst (λ (s : List ℕ). (packedAs coding (packAnswers service s (length out)) ≡ septetWrites service coding units (length out)) × (packLeaves service s out ≡ septetWriteLeaves service units out))
-    (sym e) (packed-run service coding units out new l)
+  -- packing the array is writing the text
+  array-whole : isOldPage service ≡ false → (coding : ℕ) (array out : List ℕ) → array ≡ encodedLeaves units (replicate 184 0)
+      → (septetsAs service coding (length text) (arrayAnswers (length whole) (length out)) ≡ textWrites service false coding units (length out))
+      × (arrayLeaves (laid whole array) (length whole) out ≡ textWriteLeaves service false units out)
+  unfolding arrayAnswers arrayLeaves textWrites textWriteLeaves
+  array-whole new coding array out e =
+      let v = array-verdict new (length out) in (
+        septets-settle (verdict (arrayRules (length whole) (length out))) (octetsFor (length whole)) (length text) service coding
+            ∙ ap (λ (k : ℕ). settle (verdict (arrayRules (length whole) (length out))) written.Refused (written.Done k (septetCount service (length text)) coding)) (octets-length new)
+            ∙ write-agree {x = octetsOf service text} {c = coding} v refl (count-of service text) refl,
+        leaves-agree out v (sym (octets-packed new array e)),
+      )
+
+  pub array-writes : isOldPage service ≡ false → (coding : ℕ) (array out : List ℕ) → array ≡ encodedLeaves units (replicate 184 0)
+      → (n : ℕ) → n ≡ length text → (all : ℕ) → all ≡ length (closedSeptets service (take n array)) → (left : List ℕ) → left ≡ laid (closedSeptets service (take n array)) array
+      → (septetsAs service coding n (arrayAnswers all (length out)) ≡ textWrites service false coding units (length out)) × (arrayLeaves left all out ≡ textWriteLeaves service false units out)
+  array-writes new coding array out e n p all q left r =
+      let run : closedSeptets service (take n array) ≡ whole = ap (closedSeptets service) (ap (λ (k : ℕ). take k array) p ∙ encoded-run array e) in
+      let w = array-whole new coding array out e in (
+        ap₂ (λ (n all : ℕ). septetsAs service coding n (arrayAnswers all (length out))) p (q ∙ ap length run) ∙ w .0,
+        ap₂ (λ (left : List ℕ) (all : ℕ). arrayLeaves left all out) (r ∙ ap (λ (c : List ℕ). laid c array) run) (q ∙ ap length run) ∙ w .1,
+      )
+
+-- a text that is refused, for a unit or for its size
+pub unlisted-writes : (service : Service) (units : List ℕ) → isOldPage service ≡ false → firstUnlisted units < length units → (coding : ℕ) (out : List ℕ)
+    → (written.Refused (Unlisted (firstUnlisted units)) ≡ textWrites service false coding units (length out)) × (out ≡ textWriteLeaves service false units out)
+unfolding textWrites textWriteLeaves textSizeRules verdict
+unlisted-writes service units new l coding out = simp (new, lt-ltb _ _ l) (refl, refl)
+
+pub long-writes : (service : Service) (units : List ℕ) → isOldPage service ≡ false → length units ≤ firstUnlisted units → mostSeptets service < length (septetsOf′ units) → (coding : ℕ) (out : List ℕ)
+    → (written.Refused TooLong ≡ textWrites service false coding units (length out)) × (out ≡ textWriteLeaves service false units out)
+unfolding textWrites textWriteLeaves textSizeRules verdict
+long-writes service units new l m coding out = simp (new, le-ltb _ _ l, lt-ltb _ _ m) (refl, refl)

@@ -2,17 +2,18 @@
 -- Assumes nothing.
 use mathlib.Core.Path.{_≡_, refl, ap, ap₂, _∙_, sym}
 use mathlib.Core.Bool.{Bool, true, false, cond}
-use mathlib.Core.List.{List, _++_}
+use mathlib.Core.List.{List, _∷_, _++_}
 use Prim.Native.Nat.{ℕ}
 use native.Mathlib.Omega.{arith}
 use lib.ListN.{length}
 use Rattle.words.specs.declared.Service.{Service}
 use Rattle.words.specs.declared.Service.the-variants.{ShortMessage, Broadcast, Ussd, OldPage}
 use Rattle.words.specs.declared.Refusal.{Refusal}
+use Rattle.words.specs.declared.Refusal.the-variants.{Unwritable}
 use Rattle.words.specs.declared.Filled.the-variants as filled
 use Rattle.words.specs.Sizes.{isOldPage}
 use Rattle.words.specs.Lists.{laid}
-use Rattle.words.specs.Judging.{Rule, Verdict, refused, accepted, verdict, settle}
+use Rattle.words.specs.Judging.{Rule, when, Verdict, refused, accepted, verdict, settle}
 use Rattle.words.proofs.Judging.{verdict-refused-first, verdict-accepted-first, settle-told, settle-given}
 use Rattle.coding.specs.declared.Reading.{Reading}
 use Rattle.coding.specs.declared.OctetRead.{OctetRead}
@@ -24,14 +25,13 @@ use Rattle.coding.specs.declared.Held.the-variants as held
 use Rattle.coding.specs.OctetRead.{octetRules, readUnder, octetReads}
 use Rattle.coding.specs.OctetWritten.{smallest, octetWrites, writeRules as codingRules}
 use Rattle.coding.specs.Holding.{isUcs2, textRules, holdsText}
-use Rattle.alphabet.specs.Writing.{septetsOf}
-use Rattle.packing.specs.SeptetCalls.{octetsOf, countOf}
-use Rattle.packing.specs.UnitCalls.{unitsOf, ucs2OctetsOf, unitCountOf, toOctetsRules, toOctetsAnswers, toOctetsLeaves, toUnitsAnswers, toUnitsLeaves, toUnitsRules}
+use Rattle.coding.proofs.Theorems.{settled}
+use Rattle.packing.specs.UnitCalls.{ucs2OctetsOf, unitCountOf, toOctetsRules, toOctetsAnswers, toOctetsLeaves, toUnitsAnswers, toUnitsLeaves, toUnitsRules}
 use Rattle.message.specs.declared.MessageRead.the-variants as read
 use Rattle.message.specs.declared.MessageWritten.the-variants as written
-use Rattle.message.specs.MessageRead.{textOfMessage, lengthRules, readRules, readAnswers, readLeaves}
-use Rattle.message.specs.MessageWritten.{messageOctets, messageCount, sizeRules, writeRules, writeAnswers, writeLeaves}
-use Rattle.message.specs.Inner.{heldReads, heldReadLeaves, septetText, septetReads, septetReadLeaves, septetReadRules, heldWrites, heldWriteLeaves, septetWrites, septetWriteLeaves, septetWriteRules, shownAs, ucs2Count, unitsAs}
+use Rattle.message.specs.MessageRead.{heldText, textLengthRules, textReads, textReadLeaves, textOfMessage, lengthRules, readRules, readAnswers, readLeaves}
+use Rattle.message.specs.MessageWritten.{textOctets, textCount, textSizeRules, textWrites, textWriteLeaves, messageOctets, messageCount, sizeRules, writeRules, writeAnswers, writeLeaves}
+use Rattle.message.specs.Inner.{heldReads, heldReadLeaves, heldWrites, heldWriteLeaves, shownAs, ucs2Count, unitsAs}
 
 -- ---- the verdict that an answer tells
 
@@ -76,24 +76,8 @@ written-given s r o e =
     let d : octet-written.Done o ≡ octet-written.Done (smallest s r) = e ∙ settle-given (verdict (codingRules s r)) octet-written.Refused (octet-written.Done (smallest s r)) (coding-verdict s r (octet-written.Done o) e) in
     sym (cc)
 
-units-or-septets : (b : Bool) → held.Septets ≡ cond b held.Units held.Septets → b ≡ false
-units-or-septets true e = let z : _≡_ {A = ℕ} 0 1 = cc in absurd (omega arith)
-units-or-septets false e = refl
-
-septets-or-units : (b : Bool) → held.Units ≡ cond b held.Units held.Septets → b ≡ true
-septets-or-units true e = refl
-septets-or-units false e = let z : _≡_ {A = ℕ} 0 1 = cc in absurd (omega arith)
-
-holds-septets : (r : Reading) → held.Septets ≡ holdsText r → isUcs2 (r .alphabet) ≡ false
-unfolding holdsText
-holds-septets r e = units-or-septets (isUcs2 (r .alphabet)) (e ∙ settle-given (verdict (textRules r)) held.Refused (cond (isUcs2 (r .alphabet)) held.Units held.Septets) (held-verdict r held.Septets e))
-
-holds-units : (r : Reading) → held.Units ≡ holdsText r → isUcs2 (r .alphabet) ≡ true
-unfolding holdsText
-holds-units r e = septets-or-units (isUcs2 (r .alphabet)) (e ∙ settle-given (verdict (textRules r)) held.Refused (cond (isUcs2 (r .alphabet)) held.Units held.Septets) (held-verdict r held.Units e))
-
 -- what is left in a buffer, and what a reader and a writer answer, at equal verdicts and equal contents
-leaves-agree : {v w : Verdict} {x y : List ℕ} (out : List ℕ) → v ≡ w → x ≡ y → settle w (λ q. out) (laid y out) ≡ settle v (λ q. out) (laid x out)
+pub leaves-agree : {v w : Verdict} {x y : List ℕ} (out : List ℕ) → v ≡ w → x ≡ y → settle w (λ q. out) (laid y out) ≡ settle v (λ q. out) (laid x out)
 leaves-agree out e t = sym (ap₂ (λ (w : Verdict) (x : List ℕ). settle w (λ q. out) (laid x out)) e t)
 
 read-agree : {v w : Verdict} {x y : List ℕ} {r q : Reading} → v ≡ w → x ≡ y → r ≡ q → settle w read.Refused (read.Done (length y) q) ≡ settle v read.Refused (read.Done (length x) r)
@@ -138,36 +122,37 @@ units-settle : (v : Verdict) (n : ℕ) (s : Service) (coding : ℕ) → unitsAs 
 units-settle (refused q) n s coding = refl
 units-settle accepted n s coding = refl
 
-length-septets : (service : Service) (r : Reading) (count : ℕ) (o : List ℕ) (room : ℕ) → isUcs2 (r .alphabet) ≡ false → lengthRules service r count o room ≡ septetReadRules service count o room
-unfolding lengthRules septetReadRules
-length-septets service r count o room e = simp e
+-- 7-bit text or UCS2, by the test of the alphabet
+abbrev pub heldAs : Bool → Held
+heldAs ucs2 = cond ucs2 held.Units held.Septets
 
-length-units : (service : Service) (r : Reading) (count : ℕ) (o : List ℕ) (room : ℕ) → isUcs2 (r .alphabet) ≡ true → lengthRules service r count o room ≡ toUnitsRules service o count room
-unfolding lengthRules toUnitsRules
-length-units service r count o room e = simp e
+told-text : (ucs2 : Bool) → heldTold (heldAs ucs2) ≡ accepted
+told-text true = refl
+told-text false = refl
+
+holds-text : (r : Reading) (ucs2 : Bool) → heldAs ucs2 ≡ holdsText r → isUcs2 (r .alphabet) ≡ ucs2
+unfolding holdsText
+holds-text r ucs2 e =
+    which ucs2 (isUcs2 (r .alphabet)) (e ∙ settle-given (verdict (textRules r)) held.Refused (heldAs (isUcs2 (r .alphabet))) (held-verdict r (heldAs ucs2) e ∙ told-text ucs2))
+  where
+    which : (a b : Bool) → heldAs a ≡ heldAs b → b ≡ a
+    which true true e = refl
+    which true false e = let z : _≡_ {A = ℕ} 0 1 = cc in absurd (omega arith)
+    which false true e = let z : _≡_ {A = ℕ} 0 1 = cc in absurd (omega arith)
+    which false false e = refl
 
 module _ (service : Service) (r : Reading) (count : ℕ) (o out : List ℕ) where
-  on-length : (a : Held) (rules : List Rule) → a ≡ holdsText r → heldTold a ≡ accepted → lengthRules service r count o (length out) ≡ rules
-      → verdict (textRules r ++ lengthRules service r count o (length out)) ≡ verdict rules
-  on-length a rules e t s = verdict-accepted-first (textRules r) (lengthRules service r count o (length out)) (held-verdict r a e ∙ t) ∙ ap verdict s
-
-  pub held-septets : held.Septets ≡ holdsText r
-      → (shownAs r (septetReads service count o (length out)) ≡ heldReads service r count o (length out)) × (septetReadLeaves service count o out ≡ heldReadLeaves service r count o out)
-  unfolding heldReads heldReadLeaves septetReads septetReadLeaves
-  held-septets e =
-      let b = holds-septets r e in
-      let v = on-length held.Septets (septetReadRules service count o (length out)) e refl (length-septets service r count o (length out) b) in
-      let t : textOfMessage service r count o ≡ septetText service count o = simp b in
-      (shown-settle (verdict (septetReadRules service count o (length out))) (length (septetText service count o)) r ∙ read-agree {r = r} v t refl, leaves-agree out v t)
-
-  pub held-units : held.Units ≡ holdsText r
-      → (shownAs r (toUnitsAnswers service o count (length out)) ≡ heldReads service r count o (length out)) × (toUnitsLeaves service o count out ≡ heldReadLeaves service r count o out)
-  unfolding heldReads heldReadLeaves toUnitsAnswers toUnitsLeaves
-  held-units e =
-      let b = holds-units r e in
-      let v = on-length held.Units (toUnitsRules service o count (length out)) e refl (length-units service r count o (length out) b) in
-      let t : textOfMessage service r count o ≡ unitsOf service o = simp b in
-      (shown-settle (verdict (toUnitsRules service o count (length out))) (length (unitsOf service o)) r ∙ read-agree {r = r} v t refl, leaves-agree out v t)
+  pub held-text : (ucs2 : Bool) → heldAs ucs2 ≡ holdsText r
+      → (shownAs r (textReads service ucs2 count o (length out)) ≡ heldReads service r count o (length out)) × (textReadLeaves service ucs2 count o out ≡ heldReadLeaves service r count o out)
+  unfolding heldReads heldReadLeaves textReads textReadLeaves
+  held-text ucs2 e =
+      let b = holds-text r ucs2 e in
+      let v =
+      verdict-accepted-first (textRules r) (lengthRules service r count o (length out)) (held-verdict r (heldAs ucs2) e ∙ told-text ucs2)
+      ∙ ap (λ (x : Bool). verdict (textLengthRules service x count o (length out))) b
+      in
+      let t = ap (λ (x : Bool). heldText service x count o) b in
+      (shown-settle (verdict (textLengthRules service ucs2 count o (length out))) (length (heldText service ucs2 count o)) r ∙ read-agree {r = r} v t refl, leaves-agree out v t)
 
   pub held-refused : (q : Refusal) → held.Refused q ≡ holdsText r
       → (read.Refused q ≡ heldReads service r count o (length out)) × (out ≡ heldReadLeaves service r count o out)
@@ -177,9 +162,14 @@ module _ (service : Service) (r : Reading) (count : ℕ) (o out : List ℕ) wher
       let x = textOfMessage service r count o in
       (read-agree {x = x} {r = r} v refl refl, leaves-agree {x = x} out v refl)
 
+pub units-read : (service : Service) (count : ℕ) (o out : List ℕ)
+    → (toUnitsAnswers service o count (length out) ≡ textReads service true count o (length out)) × (toUnitsLeaves service o count out ≡ textReadLeaves service true count o out)
+unfolding textReads textReadLeaves textLengthRules toUnitsAnswers toUnitsLeaves toUnitsRules
+units-read service count o out = (refl, refl)
+
 -- ---- writing a message: by its coding octet
 
-write-agree : {v w : Verdict} {x y : List ℕ} {m n c d : ℕ} → v ≡ w → x ≡ y → m ≡ n → c ≡ d → settle w written.Refused (written.Done (length y) n d) ≡ settle v written.Refused (written.Done (length x) m c)
+pub write-agree : {v w : Verdict} {x y : List ℕ} {m n c d : ℕ} → v ≡ w → x ≡ y → m ≡ n → c ≡ d → settle w written.Refused (written.Done (length y) n d) ≡ settle v written.Refused (written.Done (length x) m c)
 write-agree {v} {w} {x} {y} {m} {n} {c} {d} e t p q =
     sym (ap₂ (λ (w : Verdict) (x : List ℕ). settle w written.Refused (written.Done (length x) m c)) e t
     ∙ ap₂ (λ (m c : ℕ). settle w written.Refused (written.Done (length y) m c)) p q)
@@ -201,46 +191,48 @@ module _ (service : Service) (r : Reading) (units out : List ℕ) where
 
 -- ---- writing a message: by what its reading holds
 
-size-septets : (service : Service) (r : Reading) (units : List ℕ) (room : ℕ) → isUcs2 (r .alphabet) ≡ false → sizeRules service r units room ≡ septetWriteRules service units room
-unfolding sizeRules septetWriteRules
-size-septets service r units room e = simp e
-
 units-count : (service : Service) (units : List ℕ) → unitCountOf service units ≡ ucs2Count service (length (ucs2OctetsOf service units))
 units-count ShortMessage units = refl
 units-count Broadcast units = refl
 units-count Ussd units = refl
 units-count OldPage units = refl
 
--- where the service writes, 8 and 6 are no rules of UCS2 text
-size-units : (service : Service) (r : Reading) (units : List ℕ) (room : ℕ) → isUcs2 (r .alphabet) ≡ true → isOldPage service ≡ false
-    → verdict (sizeRules service r units room) ≡ verdict (toOctetsRules service units room)
-unfolding sizeRules toOctetsRules verdict
-size-units service r units room e new = simp (e, new)
+-- where the service writes, 8 is no rule of a text
+new-rules : (service : Service) (rules : List Rule) → isOldPage service ≡ false → verdict (when (isOldPage service) Unwritable ∷ rules) ≡ verdict rules
+unfolding verdict
+new-rules service rules new = simp new
+
+-- nor is 6 a rule of UCS2
+units-rules : (service : Service) (units : List ℕ) (room : ℕ) → verdict (when (isOldPage service) Unwritable ∷ textSizeRules service true units room) ≡ verdict (toOctetsRules service units room)
+unfolding textSizeRules toOctetsRules verdict
+units-rules service units room = refl
+
+pub old-writes : (service : Service) (ucs2 : Bool) (coding : ℕ) (units out : List ℕ) → isOldPage service ≡ true
+    → (written.Refused Unwritable ≡ textWrites service ucs2 coding units (length out)) × (out ≡ textWriteLeaves service ucs2 units out)
+unfolding textWrites textWriteLeaves verdict
+old-writes service ucs2 coding units out old = simp old (refl, refl)
+
+pub units-write : (service : Service) (coding : ℕ) (units out : List ℕ)
+    → (unitsAs service coding (toOctetsAnswers service units (length out)) ≡ textWrites service true coding units (length out)) × (toOctetsLeaves service units out ≡ textWriteLeaves service true units out)
+unfolding textWrites textWriteLeaves toOctetsAnswers toOctetsLeaves
+units-write service coding units out =
+    let v = units-rules service units (length out) in
+    (units-settle (verdict (toOctetsRules service units (length out))) (length (ucs2OctetsOf service units)) service coding ∙ write-agree {x = ucs2OctetsOf service units} {c = coding} v refl (units-count service units) refl, leaves-agree {x = ucs2OctetsOf service units} out v refl)
 
 module _ (service : Service) (r : Reading) (coding : ℕ) (units out : List ℕ) where
-  on-size : (a : Held) (w : Verdict) → a ≡ holdsText r → heldTold a ≡ accepted → verdict (sizeRules service r units (length out)) ≡ w
-      → verdict (textRules r ++ sizeRules service r units (length out)) ≡ w
-  on-size a w e t s = verdict-accepted-first (textRules r) (sizeRules service r units (length out)) (held-verdict r a e ∙ t) ∙ s
-
-  pub held-writes-septets : held.Septets ≡ holdsText r
-      → (septetWrites service coding units (length out) ≡ heldWrites service r coding units (length out)) × (septetWriteLeaves service units out ≡ heldWriteLeaves service r units out)
-  unfolding heldWrites heldWriteLeaves septetWrites septetWriteLeaves
-  held-writes-septets e =
-      let b = holds-septets r e in
-      let v = on-size held.Septets (verdict (septetWriteRules service units (length out))) e refl (ap verdict (size-septets service r units (length out) b)) in
-      let t : messageOctets service r units ≡ octetsOf service (septetsOf units) = simp b in
-      let n : messageCount service r units ≡ countOf service (septetsOf units) = simp b in
+  pub held-writes-text : (ucs2 : Bool) → heldAs ucs2 ≡ holdsText r → isOldPage service ≡ false
+      → (textWrites service ucs2 coding units (length out) ≡ heldWrites service r coding units (length out)) × (textWriteLeaves service ucs2 units out ≡ heldWriteLeaves service r units out)
+  unfolding heldWrites heldWriteLeaves textWrites textWriteLeaves
+  held-writes-text ucs2 e new =
+      let b = holds-text r ucs2 e in
+      let v =
+      verdict-accepted-first (textRules r) (sizeRules service r units (length out)) (held-verdict r (heldAs ucs2) e ∙ told-text ucs2)
+      ∙ ap (λ (x : Bool). verdict (textSizeRules service x units (length out))) b
+      ∙ sym (new-rules service (textSizeRules service ucs2 units (length out)) new)
+      in
+      let t = ap (λ (x : Bool). textOctets service x units) b in
+      let n = ap (λ (x : Bool). textCount service x units) b in
       (write-agree {c = coding} v t n refl, leaves-agree out v t)
-
-  pub held-writes-units : held.Units ≡ holdsText r → isOldPage service ≡ false
-      → (unitsAs service coding (toOctetsAnswers service units (length out)) ≡ heldWrites service r coding units (length out)) × (toOctetsLeaves service units out ≡ heldWriteLeaves service r units out)
-  unfolding heldWrites heldWriteLeaves toOctetsAnswers toOctetsLeaves
-  held-writes-units e new =
-      let b = holds-units r e in
-      let v = on-size held.Units (verdict (toOctetsRules service units (length out))) e refl (size-units service r units (length out) b new) in
-      let t : messageOctets service r units ≡ ucs2OctetsOf service units = simp b in
-      let n : messageCount service r units ≡ ucs2Count service (length (ucs2OctetsOf service units)) = simp b (units-count service units) in
-      (units-settle (verdict (toOctetsRules service units (length out))) (length (ucs2OctetsOf service units)) service coding ∙ write-agree {c = coding} v t n refl, leaves-agree out v t)
 
   pub held-writes-refused : (q : Refusal) → held.Refused q ≡ holdsText r
       → (written.Refused q ≡ heldWrites service r coding units (length out)) × (out ≡ heldWriteLeaves service r units out)
@@ -248,3 +240,33 @@ module _ (service : Service) (r : Reading) (coding : ℕ) (units out : List ℕ)
   held-writes-refused q e =
       let v = verdict-refused-first (textRules r) (sizeRules service r units (length out)) q (held-verdict r (held.Refused q) e) in
       (write-agree {x = messageOctets service r units} {m = messageCount service r units} {c = coding} v refl refl refl, leaves-agree {x = messageOctets service r units} out v refl)
+
+-- ---- a text by itself, for a caller that knows the coding octet and what its reading holds
+
+pub text-reads : (service : Service) (coding count : ℕ) (o out : List ℕ) (r : Reading) (ucs2 : Bool) → octet-read.Done r ≡ octetReads service coding → heldAs ucs2 ≡ holdsText r
+    → (shownAs r (textReads service ucs2 count o (length out)) ≡ readAnswers service coding count o (length out)) × (textReadLeaves service ucs2 count o out ≡ readLeaves service coding count o out)
+text-reads service coding count o out r ucs2 e h =
+    let t = held-text service r count o out ucs2 h in
+    let d = read-done service coding count o r out e in
+    (t .0 ∙ d .0, t .1 ∙ d .1)
+
+pub none-reads : (service : Service) (coding count : ℕ) (o out : List ℕ) (r : Reading) (q : Refusal) → octet-read.Done r ≡ octetReads service coding → held.Refused q ≡ holdsText r
+    → (read.Refused q ≡ readAnswers service coding count o (length out)) × (out ≡ readLeaves service coding count o out)
+none-reads service coding count o out r q e h =
+    let t = held-refused service r count o out q h in
+    let d = read-done service coding count o r out e in
+    (t .0 ∙ d .0, t .1 ∙ d .1)
+
+pub text-writes : (service : Service) (r : Reading) (coding : ℕ) (units out : List ℕ) (ucs2 : Bool) → octet-written.Done coding ≡ octetWrites service r → heldAs ucs2 ≡ holdsText r
+    → (textWrites service ucs2 coding units (length out) ≡ writeAnswers service r units (length out)) × (textWriteLeaves service ucs2 units out ≡ writeLeaves service r units out)
+text-writes service r coding units out ucs2 e h =
+    let t = held-writes-text service r coding units out ucs2 h (settled service r coding (sym e) .new) in
+    let d = write-done service r units out coding e in
+    (t .0 ∙ d .0, t .1 ∙ d .1)
+
+pub none-writes : (service : Service) (r : Reading) (coding : ℕ) (units out : List ℕ) (q : Refusal) → octet-written.Done coding ≡ octetWrites service r → held.Refused q ≡ holdsText r
+    → (written.Refused q ≡ writeAnswers service r units (length out)) × (out ≡ writeLeaves service r units out)
+none-writes service r coding units out q e h =
+    let t = held-writes-refused service r coding units out q h in
+    let d = write-done service r units out coding e in
+    (t .0 ∙ d .0, t .1 ∙ d .1)

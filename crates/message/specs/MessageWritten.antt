@@ -1,19 +1,23 @@
--- Document 01, "Refusal numbers and their order": the whole writer. 8, 1, 2, 3, 6, 5, 7.
--- Own rule: none. Cited by write_message. Assumes nothing.
---   notCodable r units        == a 7-bit text has a unit that is not in the alphabet
---   overSize service r units  == the text is over the service's size, in septets for 7-bit and in units for UCS2
---   messageOctets service r units == the octets of the text
---   messageCount service r units  == the length count: of a short message the septets of 7-bit text and the octets of UCS2, else 0
+-- Document 01, "Refusal numbers and their order": the whole writer. 8, 1, 2, 3, 6, 5, 7. A text by itself: 8 of an old page, 6, 5, 7.
+-- Own rule: none. Cited by write_message and write_text. Assumes nothing.
+-- A text by itself is written as UCS2 where ucs2 is true, else as 7-bit text:
+--   notCodable ucs2 units       == a 7-bit text has a unit that is not in the alphabet
+--   overSize service ucs2 units == the text is over the service's size, in septets for 7-bit and in units for UCS2
+--   textOctets, textCount       == its octets and its length count: of a short message the septets of 7-bit text and the octets of UCS2, else 0
+--   textSizeRules               == what refuses its size, where the lent buffer has that much room
+--   textWrites, textWriteLeaves == what write_text answers, and what it leaves in the lent buffer
+-- A message's text is written as its reading says:
+--   messageOctets, messageCount, sizeRules == the same of a text that is written as the reading r
 --   writeRules service r units room == the refusals, where the lent buffer has that much room
---   writeAnswers, writeLeaves == what write_message answers, and what it leaves in the lent buffer
+--   writeAnswers, writeLeaves   == what write_message answers, and what it leaves in the lent buffer
 use Prim.Native.Nat.{ℕ}
 use mathlib.Core.Bool.{Bool, false, cond}
 use mathlib.Core.List.{List, [], _∷_, _++_}
 use lib.Dec.{ltb}
 use lib.ListN.{length}
 use Rattle.words.specs.declared.Service.{Service}
-use Rattle.words.specs.declared.Refusal.the-variants.{Unlisted, TooLong, NoRoom}
-use Rattle.words.specs.Sizes.{mostSeptets, mostUnits}
+use Rattle.words.specs.declared.Refusal.the-variants.{Unlisted, TooLong, NoRoom, Unwritable}
+use Rattle.words.specs.Sizes.{mostSeptets, mostUnits, isOldPage}
 use Rattle.words.specs.Lists.{laid}
 use Rattle.words.specs.Judging.{Rule, when, verdict, settle}
 use Rattle.coding.specs.declared.Reading.{Reading}
@@ -25,27 +29,45 @@ use Rattle.packing.specs.UnitCalls.{ucs2OctetsOf, unitCountOf}
 use Rattle.message.specs.declared.MessageWritten.{MessageWritten}
 use Rattle.message.specs.declared.MessageWritten.the-variants.{Done, Refused}
 
-abbrev pub notCodable : Reading → List ℕ → Bool
-notCodable r units = cond (isUcs2 (r .alphabet)) false (ltb (firstUnlisted units) (length units))
+abbrev pub notCodable : Bool → List ℕ → Bool
+notCodable ucs2 units = cond ucs2 false (ltb (firstUnlisted units) (length units))
 
-abbrev pub overSize : Service → Reading → List ℕ → Bool
-overSize service r units =
-    cond (isUcs2 (r .alphabet)) (ltb (mostUnits service) (length units)) (ltb (mostSeptets service) (length (septetsOf units)))
+abbrev pub overSize : Service → Bool → List ℕ → Bool
+overSize service ucs2 units = cond ucs2 (ltb (mostUnits service) (length units)) (ltb (mostSeptets service) (length (septetsOf units)))
 
+abbrev pub textOctets : Service → Bool → List ℕ → List ℕ
+textOctets service ucs2 units = cond ucs2 (ucs2OctetsOf service units) (octetsOf service (septetsOf units))
+
+abbrev pub textCount : Service → Bool → List ℕ → ℕ
+textCount service ucs2 units = cond ucs2 (unitCountOf service units) (countOf service (septetsOf units))
+
+-- 6, 5, 7
+unfoldable pub textSizeRules : Service → Bool → List ℕ → ℕ → List Rule
+textSizeRules service ucs2 units room =
+    when (notCodable ucs2 units) (Unlisted (firstUnlisted units))
+    ∷ when (overSize service ucs2 units) TooLong
+    ∷ when (ltb room (length (textOctets service ucs2 units))) NoRoom
+    ∷ []
+
+unfoldable pub textWrites : Service → Bool → ℕ → List ℕ → ℕ → MessageWritten
+textWrites service ucs2 coding units room =
+    settle (verdict (when (isOldPage service) Unwritable ∷ textSizeRules service ucs2 units room)) Refused
+    (Done (length (textOctets service ucs2 units)) (textCount service ucs2 units) coding)
+
+unfoldable pub textWriteLeaves : Service → Bool → List ℕ → List ℕ → List ℕ
+textWriteLeaves service ucs2 units out =
+    settle (verdict (when (isOldPage service) Unwritable ∷ textSizeRules service ucs2 units (length out))) (λ q. out)
+    (laid (textOctets service ucs2 units) out)
+
+-- the same of a text that is written as r
 abbrev pub messageOctets : Service → Reading → List ℕ → List ℕ
-messageOctets service r units = cond (isUcs2 (r .alphabet)) (ucs2OctetsOf service units) (octetsOf service (septetsOf units))
+messageOctets service r units = textOctets service (isUcs2 (r .alphabet)) units
 
 abbrev pub messageCount : Service → Reading → List ℕ → ℕ
-messageCount service r units =
-    cond (isUcs2 (r .alphabet)) (unitCountOf service units) (countOf service (septetsOf units))
+messageCount service r units = textCount service (isUcs2 (r .alphabet)) units
 
--- 6, 5, 7, of a text that is written as r
-unfoldable pub sizeRules : Service → Reading → List ℕ → ℕ → List Rule
-sizeRules service r units room =
-    when (notCodable r units) (Unlisted (firstUnlisted units))
-    ∷ when (overSize service r units) TooLong
-    ∷ when (ltb room (length (messageOctets service r units))) NoRoom
-    ∷ []
+abbrev pub sizeRules : Service → Reading → List ℕ → ℕ → List Rule
+sizeRules service r units room = textSizeRules service (isUcs2 (r .alphabet)) units room
 
 unfoldable pub writeRules : Service → Reading → List ℕ → ℕ → List Rule
 writeRules service r units room = codingRules service r ++ (textRules r ++ sizeRules service r units room)

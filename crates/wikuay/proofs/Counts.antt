@@ -25,8 +25,17 @@ use Rattle.packing.specs.Answers.{packedCount}
 use Rattle.packing.specs.SeptetCalls.{octetsOf, countOf, packRules, packAnswers}
 use Rattle.packing.specs.UnitCalls.{unitCountOf}
 use Rattle.message.specs.declared.MessageWritten.the-variants as written
-use Rattle.message.specs.MessageWritten.{notCodable, overSize, messageOctets, messageCount, sizeRules, writeRules, writeAnswers}
+use Rattle.message.specs.MessageWritten.{textSizeRules, notCodable, overSize, messageOctets, messageCount, sizeRules, writeRules, writeAnswers}
 use Rattle.message.specs.Reports.{writeCount}
+use Rattle.wikuay.specs.declared.Answer.{Answer}
+use Rattle.wikuay.specs.declared.ReadingNumbers.{ReadingNumbers}
+use Rattle.wikuay.specs.declared.names.NamedService.{NamedService}
+use Rattle.wikuay.specs.declared.names.NamedService.the-variants as service
+use Rattle.wikuay.specs.declared.names.NamedReading.{NamedReading}
+use Rattle.wikuay.specs.declared.names.NamedReading.the-variants as reading
+use Rattle.wikuay.specs.Names.{namedService, namedReading, underService, underReading}
+use Rattle.wikuay.specs.Answers.{refusedAnswer, messageWrittenAnswer}
+use Rattle.wikuay.specs.Calls.{writeMessageGives}
 
 septets-count : (service : Service) (s : List ℕ) → ltb (mostSeptets service) (length s) ≡ false → countOf service s ≤ 160
 septets-count ShortMessage s e = ltb-false _ _ e
@@ -64,9 +73,23 @@ pack-count service s room =
     septets-count service s (accepted-rule (ltb (mostSeptets service) (length s)) TooLong _ three .0))
 
 pub write-count : (service : Service) (r : Reading) (us : List ℕ) (room : ℕ) → writeCount (writeAnswers service r us room) ≤ 160
-unfolding writeAnswers writeRules sizeRules
+unfolding writeAnswers writeRules textSizeRules
 write-count service r us room =
     written-within (verdict (writeRules service r us room)) _ _ _ (λ e.
     let sized = accepted-parts (textRules r) (sizeRules service r us room) (accepted-parts (codingRules service r) _ e .1) .1 in
-    let two = accepted-rule (notCodable r us) (Unlisted (firstUnlisted us)) _ sized .1 in
-    text-count (isUcs2 (r .alphabet)) service us (accepted-rule (overSize service r us) TooLong _ two .0))
+    let two = accepted-rule (notCodable (isUcs2 (r .alphabet)) us) (Unlisted (firstUnlisted us)) _ sized .1 in
+    text-count (isUcs2 (r .alphabet)) service us (accepted-rule (overSize service (isUcs2 (r .alphabet)) us) TooLong _ two .0))
+
+-- what is told of a message is what its own answer tells
+pub gives-count : (n : ℕ) (x : ReadingNumbers) (us : List ℕ) (room : ℕ) → writeMessageGives n x us room .count ≤ 160
+unfolding writeMessageGives
+gives-count n x us room = of-service (namedService n)
+  where
+    of-reading : (s : Service) (v : NamedReading) → underReading v (refusedAnswer Unwritable) (λ r. messageWrittenAnswer (writeAnswers s r us room)) .count ≤ 160
+    of-reading s (reading.Named r) = write-count s r us room
+    of-reading s reading.Unnamed = omega arith
+
+    of-service : (v : NamedService)
+        → underService v (refusedAnswer Unwritable) (λ s. underReading (namedReading x) (refusedAnswer Unwritable) (λ r. messageWrittenAnswer (writeAnswers s r us room))) .count ≤ 160
+    of-service (service.Named s) = of-reading s (namedReading x)
+    of-service service.Unnamed = omega arith

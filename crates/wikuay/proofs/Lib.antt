@@ -1,3 +1,4 @@
 pub mod Named
 pub mod Counts
+pub mod Settled
 pub mod Outcomes

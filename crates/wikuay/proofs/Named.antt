@@ -20,6 +20,7 @@ use Rattle.coding.specs.declared.Kind.the-variants.{Voicemail, Fax, Mail, Other
 use Rattle.coding.specs.declared.Notice.{Notice}
 use Rattle.coding.specs.declared.Notice.the-variants.{Nothing, Discard, Store}
 use Rattle.coding.specs.declared.Reading.{Reading}
+use Rattle.coding.specs.Readings.{plainIn}
 use Rattle.coding.specs.Numbers.{alphabetNo, classNo, languageNo, kindNo, noticeNo, flagNo, alphabets, classes, languages, kinds}
 use Rattle.coding.proofs.Numbered.{alphabet-named, class-named, language-named, flag-named}
 use Rattle.wikuay.specs.declared.ReadingNumbers.{ReadingNumbers}
@@ -218,3 +219,18 @@ chosen-numbers x false h = refl
 pub reading-number : (x : ReadingNumbers) (r : Reading) → namedReading x ≡ reading.Named r → numbersOf r ≡ x
 unfolding namedReading
 reading-number x r e = sym (ap (readingReads x) e) ∙ chosen-numbers x (namesFields x) (within x)
+
+-- plain text, by its numbers
+pub plain-named : (x : ReadingNumbers) (ucs2 : Bool) → x .alphabet ≡ cond ucs2 2 0
+    → (x .compressed ≡ 0) × (x .class ≡ 0) × (x .language ≡ 15) × (x .deletion ≡ 0) × (x .prefix ≡ 0) × (x .reserved ≡ 0) × (x .notice ≡ 0)
+    → namedReading x ≡ reading.Named (plainIn ucs2)
+unfolding namedReading namesFields namesFlags namedNotice
+plain-named x true a b = simp (a, b .0, b .1, b .2, b .3, b .4, b .5, b .6)
+plain-named x false a b = simp (a, b .0, b .1, b .2, b .3, b .4, b .5, b .6)
+
+abbrev pub plainRow : ℕ → ReadingNumbers
+plainRow alphabet = record { alphabet = alphabet; compressed = 0; class = 0; language = 15; deletion = 0; prefix = 0; reserved = 0; notice = 0 }
+
+pub plain-own : (ucs2 : Bool) → plainRow (cond ucs2 2 0) ≡ numbersOf (plainIn ucs2)
+plain-own true = refl
+plain-own false = refl

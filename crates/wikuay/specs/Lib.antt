@@ -1,3 +1,4 @@
 pub mod Names
 pub mod Answers
 pub mod Calls
+pub mod Inner

@@ -3,15 +3,16 @@ ghost use mathlib.Core.Path.{_≡_};
 ghost use Prim.Native.Nat.{_≤_};
 ghost use Rattle.packing.specs.Answers.{packedCount};
 ghost use Rattle.message.specs.Reports.{writeCount};
-ghost use Rattle.wikuay.specs.Answers.{doneAnswer, refusedAnswer, readAnswer, readRefusedAnswer, filledAnswer, packedAnswer, octetWrittenAnswer, messageWrittenAnswer, octetReadAnswer, heldAnswer, messageReadAnswer};
+ghost use Rattle.wikuay.specs.Answers.{doneAnswer, refusedAnswer, readAnswer, readRefusedAnswer, filledAnswer, packedAnswer, octetWrittenAnswer, messageWrittenAnswer, octetReadAnswer, heldAnswer};
+ghost use Rattle.wikuay.specs.Inner.{shownAnswer};
 use crate::Answer;
 use crate::ReadAnswer;
+use crate::ReadingNumbers;
 use crate::names;
 use coding::Held;
 use coding::OctetRead;
 use coding::OctetWritten;
 use coding::Reading;
-use message::MessageRead;
 use message::MessageWritten;
 use packing::Packed;
 use words::Filled;
@@ -141,12 +142,18 @@ pub(crate) fn held(answer: Held) -> ReadAnswer
     }
 }
 
-// Of the whole reader.
-pub(crate) fn message_read(answer: MessageRead) -> ReadAnswer
-    ensures { λ r. ⌜ r ≡ messageReadAnswer answer ⌝ }
+// Of reading a text, with the numbers of its reading.
+pub(crate) fn shown(reading: ReadingNumbers, answer: Filled) -> ReadAnswer
+    ensures { λ r. ⌜ r ≡ shownAnswer reading answer ⌝ }
 {
     match answer {
-        MessageRead::Done { units, reading } => read(units, 0, reading),
-        MessageRead::Refused(refusal) => read_refused(refusal),
+        Filled::Done(units) => ReadAnswer {
+            refusal: 0,
+            position: 0,
+            written: units,
+            holds: 0,
+            reading: reading,
+        },
+        Filled::Refused(refusal) => read_refused(refusal),
     }
 }

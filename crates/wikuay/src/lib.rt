@@ -5,10 +5,13 @@ ghost use lib.ListN.{length};
 ghost use Rattle.wikuay.specs.Calls.{readCodingGives, writeCodingGives, holdsTextGives, packGives, packKeeps, unpackGives, unpackKeeps, textToSeptetsGives, textToSeptetsKeeps, septetsToTextGives, septetsToTextKeeps, readMessageGives, readMessageKeeps, writeMessageGives, writeMessageKeeps};
 use names::NamedReading;
 use names::NamedService;
+use said::Heard;
+use said::Sent;
 use words::Refusal;
 
 mod answers;
 mod names;
+mod said;
 
 // A reading in numbers, as C hands it over.
 #[repr(C)]
@@ -136,9 +139,13 @@ pub extern "C" fn wikuay_read_message(
     ensures buffer { λ r. ⌜ now (out .exit) ≡ readMessageKeeps service coding count (now (octets .entry)) (now (out .entry)) ⌝ }
 {
     match names::service(service) {
-        NamedService::Named(service) => {
-            answers::message_read(message::read_message(service, coding, count, octets, out))
-        }
+        NamedService::Named(service) => match said::hears(service, coding) {
+            Heard::Text { ucs2, reading } => answers::shown(
+                reading,
+                message::read_text(service, ucs2, count, octets, out),
+            ),
+            Heard::Refused(refusal) => answers::read_refused(refusal),
+        },
         NamedService::Unnamed => answers::read_refused(Refusal::Unwritable),
     }
 }
@@ -155,17 +162,16 @@ pub extern "C" fn wikuay_write_message(
     ensures buffer { λ r. ⌜ now (out .exit) ≡ writeMessageKeeps service reading (now (text .entry)) (now (out .entry)) ⌝ }
 {
     match names::service(service) {
-        NamedService::Named(service) => {
-            if names::plain(reading) {
-                return answers::message_written(message::write_plain(service, text, out));
-            }
-            match names::reading(reading) {
-                NamedReading::Named(reading) => {
-                    answers::message_written(message::write_message(service, reading, text, out))
-                }
-                NamedReading::Unnamed => answers::refused(Refusal::Unwritable),
-            }
-        }
+        NamedService::Named(service) => match said::sends(service, reading) {
+            Sent::Text { coding, ucs2 } => answers::message_written(message::write_text(
+                service,
+                ucs2,
+                coding,
+                text,
+                out,
+            )),
+            Sent::Refused(refusal) => answers::refused(refusal),
+        },
         NamedService::Unnamed => answers::refused(Refusal::Unwritable),
     }
 }

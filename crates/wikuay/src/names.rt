@@ -1,10 +1,11 @@
 // Numbers that cross from C, and what they name: a service, and the fields of a reading.
 ghost use mathlib.Core.Path.{_≡_};
-ghost use mathlib.Core.Bool.{true};
+ghost use mathlib.Core.Bool.{true, cond};
 ghost use Prim.Native.Nat.{_<_};
 ghost use Rattle.wikuay.specs.Names.{namedService, namedNotice, namesFlags, namesFields, readingWith, namedReading, numbersOf};
 ghost use Rattle.coding.specs.Numbers.{flagNo};
-ghost use Rattle.coding.specs.Readings.{unmentioned};
+ghost use Rattle.coding.specs.Readings.{plainIn};
+ghost use Rattle.wikuay.specs.declared.names.NamedReading.the-variants.{Named};
 use crate::ReadingNumbers;
 use coding::Alphabet;
 use coding::Notice;
@@ -172,33 +173,55 @@ fn bare(numbers: ReadingNumbers) -> bool
     numbers.notice == 0
 }
 
-// True only for the numbers of the plain reading, 7-bit text with nothing special.
-pub(crate) fn plain(numbers: ReadingNumbers) -> bool
-    ensures { λ r. ⌜ (r ≡ true → namedReading numbers ≡ namedReading (numbersOf unmentioned)) ⌝ }
+// The number of plain text's alphabet.
+pub(crate) fn plain_alphabet(ucs2: bool) -> u8
+    ensures { λ r. ⌜ r ≡ cond ucs2 2 0 ⌝ }
 {
-    if numbers.alphabet != 0 {
+    if ucs2 { 2 } else { 0 }
+}
+
+// True only for the numbers of plain text, 7-bit or UCS2 with nothing special.
+pub(crate) fn plain(numbers: ReadingNumbers, ucs2: bool) -> bool
+    ensures { λ r. ⌜ (r ≡ true → namedReading numbers ≡ Named (plainIn ucs2)) ⌝ }
+{
+    if numbers.alphabet != plain_alphabet(ucs2) {
         return false;
     }
     bare(numbers)
+}
+
+// The numbers of plain text.
+pub(crate) fn plain_numbers(ucs2: bool) -> ReadingNumbers
+    ensures { λ r. ⌜ r ≡ numbersOf (plainIn ucs2) ⌝ }
+{
+    let alphabet = plain_alphabet(ucs2);
+    ReadingNumbers {
+        alphabet: alphabet,
+        compressed: 0,
+        class: 0,
+        language: 15,
+        deletion: 0,
+        prefix: 0,
+        reserved: 0,
+        notice: 0,
+    }
 }
 
 // The reading whose fields have these numbers. Plain text, 7-bit or UCS2, is by far the most, and needs no table.
 pub(crate) fn reading(numbers: ReadingNumbers) -> NamedReading
     ensures { λ r. ⌜ r ≡ namedReading numbers ⌝ }
 {
-    if bare(numbers) {
-        if numbers.alphabet == 0 {
-            return NamedReading::Named(Reading::plain());
-        }
-        if numbers.alphabet == 2 {
-            return NamedReading::Named(Reading::plain().with_alphabet(Alphabet::Ucs2));
-        }
+    if plain(numbers, false) {
+        return NamedReading::Named(Reading::plain());
+    }
+    if plain(numbers, true) {
+        return NamedReading::Named(Reading::plain().with_alphabet(Alphabet::Ucs2));
     }
     any_reading(numbers)
 }
 
 // The reading whose fields have these numbers, each looked up.
-fn any_reading(numbers: ReadingNumbers) -> NamedReading
+pub(crate) fn any_reading(numbers: ReadingNumbers) -> NamedReading
     ensures { λ r. ⌜ r ≡ namedReading numbers ⌝ }
 {
     if fields(numbers) {

@@ -6,8 +6,8 @@ use borrow.Author.Needs.{needs}
 use Rattle.message.proofs.read_message.Statement.{statement}
 use Rattle.message.proofs.read_message.Tie as tie
 
-said-requires : tie.Need-said-requires
-said-requires c κs = search needs
+read-octet-requires : tie.Need-read-octet-requires
+read-octet-requires c κs = search needs
 
 enum-known-reading : tie.Need-enum-known-reading
 enum-known-reading c = search needs
@@ -22,16 +22,16 @@ same-length : tie.Need-same-length
 same-length c = search needs
 
 returns : tie.Need-returns
-returns c = let a = c .before .before .before .before .before .before .before .before .before .before .args in let s = read-done (a .service) (a .coding) (a .count) (now (a .octets)) (c .before .before .before .before .before .reading .given .0 .0) (now (a .out)) (sym (c .before .before .before .before .before .reading .given .1) ∙ c .before .before .before .before .before .before .before .said .ensures) in (c .before .before .read-held .ensures .0 ∙ s .0, c .before .before .read-held .ensures .1 ∙ s .1)
+returns c = let a = c .before .before .before .before .before .before .before .before .before .before .args in let s = read-done (a .service) (a .coding) (a .count) (now (a .octets)) (c .before .before .before .before .before .reading .given .0 .0) (now (a .out)) (sym (c .before .before .before .before .before .reading .given .1) ∙ c .before .before .before .before .before .before .before .read-octet .ensures) in (c .before .before .read-held .ensures .0 ∙ s .0, c .before .before .read-held .ensures .1 ∙ s .1)
 
 returns-2 : tie.Need-returns-2
-returns-2 c = let a = c .before .before .before .before .before .before .args in read-refused (a .service) (a .coding) (a .count) (now (a .octets)) _ (now (a .out)) (sym (c .before .refusal .given .1) ∙ c .before .before .before .said .ensures)
+returns-2 c = let a = c .before .before .before .before .before .before .args in read-refused (a .service) (a .coding) (a .count) (now (a .octets)) _ (now (a .out)) (sym (c .before .refusal .given .1) ∙ c .before .before .before .read-octet .ensures)
 
 pub read-message-spec : {M : Type 1} → statement M
 read-message-spec =
     tie.close
     (tie.spec
-    said-requires
+    read-octet-requires
     enum-known-reading
     read-held-requires
     enum-known-refusal

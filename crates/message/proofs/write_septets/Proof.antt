@@ -1,61 +1,96 @@
--- `write_septets` meets its contract: the septets of a text that is not too long fit the array, and their run at its front is packed. Assumes nothing.
-use Rattle.message.proofs.Septets.{written-whole, written-run, written-room, written-refused, packed-writes}
+-- `write_septets` meets its contract: the septets of a text that is not refused fit the array, and what is packed is what the service sends. Assumes nothing.
+use Rattle.message.proofs.Septets.{told-units, told-septets, unlisted-writes, long-writes, array-writes}
+use Rattle.alphabet.specs.Writing.{septetsOf}
 use Rattle.message.specs.declared.MessageWritten.the-variants as written
-use lib.Seq.{length-take-le}
-use denote.Ref.{now}
-use lib.ListN.{replicate}
-use Prim.Native.Nat.{ℕ}
+use Rattle.words.specs.declared.Refusal.the-variants.{Unlisted}
+use native.Mathlib.Omega.{arith}
+use lib.ListN.{length}
 use mathlib.Core.List.{List}
-use mathlib.Core.Path.{refl, ap, sym, _∙_}
+use Rattle.words.specs.Sizes.{mostSeptets}
+use Rattle.message.specs.Inner.{septetsAs}
+use Prim.Native.Nat.{ℕ, _<_, _≤_}
+use denote.Ref.{now}
+use mathlib.Core.Path.{refl, ap, sym, subst, _∙_}
 use borrow.Author.Needs.{needs}
 use Rattle.message.proofs.write_septets.Statement.{statement}
 use Rattle.message.proofs.write_septets.Tie as tie
 
-slice-aggregate-text-to-septets : tie.Need-slice-aggregate-text-to-septets
-slice-aggregate-text-to-septets c = search needs
+slice-aggregate-encode : tie.Need-slice-aggregate-encode
+slice-aggregate-encode c = search needs
 
-text-to-septets-requires : tie.Need-text-to-septets-requires
-text-to-septets-requires c κs = search needs
+encode-requires : tie.Need-encode-requires
+encode-requires c κs = search needs
 
-enum-known-n : tie.Need-enum-known-n
-enum-known-n c = search needs
+returns : tie.Need-returns
+returns c =
+    let done = c .before .before in
+    let start = done .before .before .before .before in
+    let a = start .args in
+    let u = told-units (now (a .units)) _ (done .encode .ensures .0) in
+    let w = unlisted-writes (a .service) (now (a .units)) (start .pre) (subst (λ (k : ℕ). k < length (now (a .units))) u (c .if1 .taken)) (a .coding) (now (a .out)) in
+    (ap (λ (k : ℕ). written.Refused (Unlisted k)) u ∙ w .0, w .1)
 
-array-share-prefix-septets : tie.Need-array-share-prefix-septets
-array-share-prefix-septets c = written-room (now (c .before .before .before .before .before .before .before .before .args .units)) (replicate 182 0) refl _ _ (sym (c .before .n .given .1) ∙ c .before .before .before .before .text-to-septets .ensures .0) (c .before .before .before .before .text-to-septets .ensures .1)
+most-septets-requires : tie.Need-most-septets-requires
+most-septets-requires c κs = search needs
 
-slice-aggregate-pack-septets : tie.Need-slice-aggregate-pack-septets
-slice-aggregate-pack-septets c = sym (length-take-le _ _ (written-room (now (c .before .before .before .before .before .before .before .before .before .args .units)) (replicate 182 0) refl _ _ (sym (c .before .before .n .given .1) ∙ c .before .before .before .before .before .text-to-septets .ensures .0) (c .before .before .before .before .before .text-to-septets .ensures .1)))
+returns-2 : tie.Need-returns-2
+returns-2 c =
+    let asked = c .before in
+    let tested = asked .before in
+    let done = tested .before .before in
+    let start = done .before .before .before .before in
+    let a = start .args in
+    let l = subst (λ (k : ℕ). length (now (a .units)) ≤ k) (told-units (now (a .units)) _ (done .encode .ensures .0)) (tested .if1 .left) in
+    let n = told-septets (now (a .units)) _ (done .encode .ensures .0) l in
+    long-writes (a .service) (now (a .units)) (start .pre) l (omega (arith, n, asked .most-septets .ensures, c .if2 .taken)) (a .coding) (now (a .out))
 
-pack-septets-requires : tie.Need-pack-septets-requires
-pack-septets-requires c κs = search needs
+slice-aggregate-close : tie.Need-slice-aggregate-close
+slice-aggregate-close c = search needs
 
-enum-known-refusal : tie.Need-enum-known-refusal
-enum-known-refusal c = search needs
+close-requires : tie.Need-close-requires
+close-requires c κs =
+    let tested = c .before in
+    let asked = tested .before in
+    (omega (arith, asked .most-septets .ensures, tested .if2 .left), search needs)
 
-refused-requires : tie.Need-refused-requires
-refused-requires c κs = search needs
+pack-array-requires : tie.Need-pack-array-requires
+pack-array-requires c κs = search needs
+
+filed-requires : tie.Need-filed-requires
+filed-requires c κs = search needs
 
 same-length : tie.Need-same-length
 same-length c = search needs
 
-returns : tie.Need-returns
-returns c = let a = c .before .before .before .before .before .before .before .before .before .before .before .before .before .args in let units : List ℕ = now (a .units) in let e = sym (c .before .before .before .before .before .before .n .given .1) ∙ c .before .before .before .before .before .before .before .before .before .text-to-septets .ensures .0 in let w = written-whole units (replicate 182 0) refl _ e in let run = written-run units (replicate 182 0) refl _ _ e (c .before .before .before .before .before .before .before .before .before .text-to-septets .ensures .1) in let p = packed-writes (a .service) (a .coding) units (now (a .out)) (c .before .before .before .before .before .before .before .before .before .before .before .before .before .pre) (w .0) _ run in (c .before .before .pack-septets .ensures .0 ∙ p .0, c .before .before .pack-septets .ensures .1 ∙ p .1)
-
-returns-2 : tie.Need-returns-2
-returns-2 c = let a = c .before .before .before .before .before .before .before .before .before .args in let w = written-refused (now (a .units)) (replicate 182 0) refl (a .service) (a .coding) _ (now (a .out)) (sym (c .before .before .refusal .given .1) ∙ c .before .before .before .before .before .text-to-septets .ensures .0) in (ap written.Refused (c .refused .ensures) ∙ w .0, w .1)
+returns-3 : tie.Need-returns-3
+returns-3 c =
+    let packed = c .before .before .before in
+    let closed = packed .before .before .before .before in
+    let tested = closed .before .before in
+    let asked = tested .before in
+    let listed = asked .before in
+    let done = listed .before .before in
+    let start = done .before .before .before .before in
+    let a = start .args in
+    let units : List ℕ = now (a .units) in
+    let l = subst (λ (k : ℕ). length units ≤ k) (told-units units _ (done .encode .ensures .0)) (listed .if1 .left) in
+    let n = told-septets units _ (done .encode .ensures .0) l in
+    let m : length (septetsOf units) ≤ mostSeptets (a .service) = omega (arith, n, asked .most-septets .ensures, tested .if2 .left) in
+    let w = array-writes (a .service) units l m (start .pre) (a .coding) _ (now (a .out)) (done .encode .ensures .1) _ n _ (closed .close .ensures .0) _ (closed .close .ensures .1) in
+    (c .filed .ensures ∙ ap (septetsAs (a .service) (a .coding) _) (packed .pack-array .ensures .0) ∙ w .0, packed .pack-array .ensures .1 ∙ w .1)
 
 pub write-septets-spec : {M : Type 1} → statement M
 write-septets-spec =
     tie.close
     (tie.spec
-    slice-aggregate-text-to-septets
-    text-to-septets-requires
-    enum-known-n
-    array-share-prefix-septets
-    slice-aggregate-pack-septets
-    pack-septets-requires
-    enum-known-refusal
-    refused-requires
-    same-length
+    slice-aggregate-encode
+    encode-requires
     returns
-    returns-2)
+    most-septets-requires
+    returns-2
+    slice-aggregate-close
+    close-requires
+    pack-array-requires
+    filed-requires
+    same-length
+    returns-3)

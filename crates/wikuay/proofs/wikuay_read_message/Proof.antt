@@ -1,6 +1,9 @@
--- `wikuay_read_message` meets its contract: the library's call does, for what the numbers name. Assumes nothing.
+-- `wikuay_read_message` meets its contract: what is settled of the text settles the message. Assumes nothing.
+use Rattle.wikuay.proofs.Settled.{gives-heard}
+use Rattle.wikuay.specs.Inner.{shownAnswer}
 use Rattle.wikuay.specs.Calls.{readMessageGives, readMessageKeeps}
-use mathlib.Core.Path.{sym, _∙_}
+use denote.Ref.{now}
+use mathlib.Core.Path.{ap, sym, _∙_}
 use borrow.Author.Needs.{needs}
 use Rattle.wikuay.proofs.wikuay_read_message.Statement.{statement}
 use Rattle.wikuay.proofs.wikuay_read_message.Tie as tie
@@ -11,28 +14,62 @@ service-requires c κs = search needs
 enum-known-service : tie.Need-enum-known-service
 enum-known-service c = search needs
 
-read-message-requires : tie.Need-read-message-requires
-read-message-requires c κs = search needs
+hears-requires : tie.Need-hears-requires
+hears-requires c κs = search needs
 
-message-read-requires : tie.Need-message-read-requires
-message-read-requires c κs = search needs
+enum-known-ucs2 : tie.Need-enum-known-ucs2
+enum-known-ucs2 c = search needs
+
+read-text-requires : tie.Need-read-text-requires
+read-text-requires c κs = search needs
+
+shown-requires : tie.Need-shown-requires
+shown-requires c κs = search needs
+
+enum-known-refusal : tie.Need-enum-known-refusal
+enum-known-refusal c = search needs
+
+read-refused-requires : tie.Need-read-refused-requires
+read-refused-requires c κs = search needs
 
 enum-told : tie.Need-enum-told
 enum-told c = search needs
 
-read-refused-requires : tie.Need-read-refused-requires
-read-refused-requires c κs = search needs
+read-refused-requires-2 : tie.Need-read-refused-requires-2
+read-refused-requires-2 c κs = search needs
 
 same-length : tie.Need-same-length
 same-length c = search needs
 
 returns : tie.Need-returns
-unfolding readMessageGives readMessageKeeps
-returns c = (simp (c .message-read .ensures, c .before .before .before .read-message .ensures .0, sym (c .before .before .before .before .before .before .before .before .service .ensures) ∙ c .before .before .before .before .before .before .service2 .given .1), simp (c .before .before .before .read-message .ensures .1, sym (c .before .before .before .before .before .before .before .before .service .ensures) ∙ c .before .before .before .before .before .before .service2 .given .1))
+returns c =
+    let did = c .before .before .before in
+    let heard = did .before .before .before in
+    let asked = heard .before .before in
+    let told = asked .before .before in
+    let named = told .before .before in
+    let a = named .before .before .before .args in
+    let n = sym (named .service .ensures) ∙ told .service2 .given .1 in
+    let g = gives-heard (a .service) _ n (a .coding) (a .count) (now (a .octets)) (now (a .out)) _ (sym (heard .ucs2 .given .1) ∙ asked .hears .ensures) in
+    (c .shown .ensures ∙ ap (shownAnswer _) (did .read-text .ensures .0) ∙ g .0, did .read-text .ensures .1 ∙ g .1)
 
 returns-2 : tie.Need-returns-2
+returns-2 c =
+    let heard = c .before .before in
+    let asked = heard .before .before in
+    let told = asked .before .before in
+    let named = told .before .before in
+    let a = named .before .before .before .args in
+    let n = sym (named .service .ensures) ∙ told .service2 .given .1 in
+    let g = gives-heard (a .service) _ n (a .coding) (a .count) (now (a .octets)) (now (a .out)) _ (sym (heard .refusal .given .1) ∙ asked .hears .ensures) in
+    (c .read-refused .ensures ∙ g .0, g .1)
+
+returns-3 : tie.Need-returns-3
 unfolding readMessageGives readMessageKeeps
-returns-2 c = (simp (c .read-refused .ensures, sym (c .before .before .before .service .ensures) ∙ c .before .enum-told .given .1), simp (sym (c .before .before .before .service .ensures) ∙ c .before .enum-told .given .1))
+returns-3 c =
+    let told = c .before in
+    let n = sym (told .before .before .service .ensures) ∙ told .enum-told .given .1 in
+    (simp (c .read-refused2 .ensures, n), simp n)
 
 pub wikuay-read-message-spec : {M : Type 1} → statement M
 wikuay-read-message-spec =
@@ -40,10 +77,15 @@ wikuay-read-message-spec =
     (tie.spec
     service-requires
     enum-known-service
-    read-message-requires
-    message-read-requires
-    enum-told
+    hears-requires
+    enum-known-ucs2
+    read-text-requires
+    shown-requires
+    enum-known-refusal
     read-refused-requires
+    enum-told
+    read-refused-requires-2
     same-length
     returns
-    returns-2)
+    returns-2
+    returns-3)

@@ -1,9 +1,12 @@
 -- `plain` meets its contract: it answers true only after every test. Assumes nothing.
-use Rattle.wikuay.specs.Names.{namedReading, namesFields, namesFlags, namedNotice}
-use Rattle.wikuay.proofs.Named.{never}
+use Rattle.wikuay.proofs.Named.{never, plain-named}
+use mathlib.Core.Path.{_∙_}
 use borrow.Author.Needs.{needs}
 use Rattle.wikuay.proofs.names.plain.Statement.{statement}
 use Rattle.wikuay.proofs.names.plain.Tie as tie
+
+plain-alphabet-requires : tie.Need-plain-alphabet-requires
+plain-alphabet-requires c κs = search needs
 
 returns : tie.Need-returns
 returns c = never
@@ -12,8 +15,7 @@ bare-requires : tie.Need-bare-requires
 bare-requires c κs = search needs
 
 returns-2 : tie.Need-returns-2
-unfolding namedReading namesFields namesFlags namedNotice
-returns-2 c = λ e. let b = c .bare .ensures e in simp (c .before .if1 .left, b .0, b .1, b .2, b .3, b .4, b .5, b .6)
+returns-2 c = λ e. let tested = c .before in let a = tested .before .before .before .args in plain-named (a .numbers) (a .ucs2) (tested .if1 .left ∙ tested .before .before .plain-alphabet .ensures) (c .bare .ensures e)
 
 pub plain-spec : {M : Type 1} → statement M
-plain-spec = tie.close (tie.spec returns bare-requires returns-2)
+plain-spec = tie.close (tie.spec plain-alphabet-requires returns bare-requires returns-2)
