@@ -1,4 +1,5 @@
 pub mod Folds
+pub mod Ends
 pub mod Given
 pub mod Calls
 pub mod RoundTrips

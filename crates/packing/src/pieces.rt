@@ -81,13 +81,13 @@ fn pack_group(septets: &[u8], from: usize, out: &mut [u8], to: usize)
     spread(v, out, to, 7, 8);
 }
 
-// Seven octets from from on as eight septets from to on.
+// Seven octets from from on as eight septets from to on. Eight octets are one load, and the last of them is dropped.
 fn unpack_group(octets: &[u8], from: usize, out: &mut [u8], to: usize)
     requires { ⌜ ((k : ℕ) → getD (now octets) k 0 < 256) ⌝ }
     requires { ⌜ (from + 7 ≤ length (now octets)) × (to + 8 ≤ length (now out)) ⌝ }
     ensures { λ _. ⌜ now (out .exit) ≡ take to (now (out .entry)) ++ digits 128 8 (value 256 (take 7 (drop from (now (octets .entry))))) ++ drop (to + 8) (now (out .entry)) ⌝ }
 {
-    let v = join(octets, from, 7, 8);
+    let v = if from + 8 <= octets.len() { join(octets, from, 8, 8) & 0xffffffffffffff } else { join(octets, from, 7, 8) };
     let x = stretch(v);
     spread(x, out, to, 8, 8);
 }
@@ -116,4 +116,48 @@ pub(crate) fn recut(pieces: &[u8], w: usize, groups: usize, out: &mut [u8], u: u
         recut_group(pieces, w, u * g, out, u, w * g);
         g += 1;
     }
+}
+
+// The lowest n octets of v from at on, in runs of four, two and one: what is left after whole groups is less than seven septets or octets,
+// and a loop would cost more than the runs.
+pub(crate) fn put_end(v: u64, out: &mut [u8], at: usize, n: usize)
+    requires { ⌜ (at + n ≤ length (now out)) × (n < 8) ⌝ }
+    ensures { λ _. ⌜ now (out .exit) ≡ take at (now (out .entry)) ++ digits 256 n v ++ drop (at + n) (now (out .entry)) ⌝ }
+{
+    let mut w = v;
+    let mut k = at;
+    if 4 <= n {
+        spread(w, out, k, 4, 8);
+        w = w >> 32;
+        k += 4;
+    }
+    if 2 <= n % 4 {
+        spread(w, out, k, 2, 8);
+        w = w >> 16;
+        k += 2;
+    }
+    if n % 2 == 1 {
+        spread(w, out, k, 1, 8);
+    }
+}
+
+// The n octets from at on as one number, the first lowest, in such runs.
+pub(crate) fn take_end(octets: &[u8], at: usize, n: usize) -> u64
+    requires { ⌜ (at + n ≤ length (now octets)) × (n < 8) ⌝ }
+    ensures { λ r. ⌜ r ≡ value 256 (take n (drop at (now (octets .entry)))) ⌝ }
+{
+    let mut v: u64 = 0;
+    let mut k = at + n;
+    if n % 2 == 1 {
+        k -= 1;
+        v = wide(octets[k]);
+    }
+    if 2 <= n % 4 {
+        k -= 2;
+        v = (v << 16) | join(octets, k, 2, 8);
+    }
+    if 4 <= n {
+        v = (v << 32) | join(octets, at, 4, 8);
+    }
+    v
 }
