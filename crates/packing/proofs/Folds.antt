@@ -15,7 +15,7 @@ use Rattle.stream.specs.Inner.{value, digits}
 use Rattle.stream.proofs.Numbers.{value-digits, value-lt, digits-value, digits-below, digits-length, value-append}
 
 -- the lowest place of a masked number, and the places above it
-masked : (k j A a B : ℕ) → a < 2 ^ k → 2 ^ j - 1 < 2 ^ k → bitAnd (A * 2 ^ k + a) (B * 2 ^ k + (2 ^ j - 1)) ≡ bitAnd A B * 2 ^ k + a % 2 ^ j
+pub masked : (k j A a B : ℕ) → a < 2 ^ k → 2 ^ j - 1 < 2 ^ k → bitAnd (A * 2 ^ k + a) (B * 2 ^ k + (2 ^ j - 1)) ≡ bitAnd A B * 2 ^ k + a % 2 ^ j
 masked k j A a B h m = and-block k A B a (2 ^ j - 1) h m ∙ ap (λ (t : ℕ). bitAnd A B * 2 ^ k + t) (and-mask a j)
 
 masked-four : (a b c s0 s1 s2 s3 : ℕ) → a < 65536 → b < 65536 → c < 65536 → a % 128 ≡ s0 → b % 128 ≡ s1 → c % 128 ≡ s2 → s3 < 128

@@ -61,12 +61,10 @@ sub-k-2 : tie.Need-sub-k-2
 sub-k-2 c = let at = c .before .before in omega (arith, ones at .next)
 
 join-requires : tie.Need-join-requires
-join-requires c κs =
-    let at = c .before .before .before in
-    (below (at .before), omega (arith, ones at .next))
+join-requires c κs = let at = c .before .before .before in omega (arith, ones at .next)
 
 join-requires-2 : tie.Need-join-requires-2
-join-requires-2 c κs = (below (c .before .before .before .before), omega arith)
+join-requires-2 c κs = omega arith
 
 returns : tie.Need-returns
 returns c =
