@@ -1,31 +1,37 @@
 -- A call that has passed its own rules answers and leaves what storing its result does, where only 7 can refuse.
 -- Assumes nothing.
-use mathlib.Core.Path.{_≡_, refl, sym, ap, _∙_}
+use mathlib.Core.Path.{_≡_, refl, sym, ap, _∙_, subst}
 use mathlib.Core.Bool.{Bool, true, false, _&&_, and-false}
 use mathlib.Core.List.{List, [], _∷_}
-use Prim.Native.Nat.{ℕ, _%_, _≤_, _<_}
+use Prim.Native.Nat.{ℕ, _+_, _*_, _/_, _%_, _≤_, _<_}
 use native.Mathlib.Omega.{arith}
 use native.Mathlib.Decide.{decLe}
 use borrow.Author.Tests.{le-ltb, le-leb, lt-leb, eq-eqb, ne-eqb, eqb-true, leb-true, leb-false}
 use lib.Dec.{ltb, leb, eqb}
-use lib.ListN.{length, getD, List·getD-eq-default}
+use lib.ListN.{length, getD, take, drop, replicate, length-replicate, List·getD-eq-default}
+use lib.Seq.{take-all, take-append-le}
 use Rattle.words.specs.declared.Service.{Service}
 use Rattle.words.specs.declared.Service.the-variants.{ShortMessage, Broadcast, Ussd, OldPage}
 use Rattle.words.specs.declared.Filled.{Filled}
 use Rattle.words.specs.declared.Filled.the-variants.{Done, Refused}
-use Rattle.words.specs.declared.Refusal.the-variants.{NoRoom}
+use Rattle.words.specs.declared.Refusal.{Refusal}
+use Rattle.words.specs.declared.Refusal.the-variants.{NoRoom, WrongLength}
 use Rattle.words.specs.Sizes.{mostSeptets, mostUnits, isOldPage}
-use Rattle.words.specs.Lists.{firstPlace}
+use Rattle.words.specs.Lists.{firstPlace, laid}
 use Rattle.words.specs.Judging.{when, verdict, settle}
 use Rattle.words.proofs.Below.{Below}
 use Rattle.words.proofs.Places.{place-before}
+use Rattle.words.proofs.Laid.{laid-length}
 use Rattle.words.proofs.Tests.{and-left, and-right}
 use Rattle.packing.specs.declared.Packed.the-variants as packed
 use Rattle.stream.specs.Stream.{octetsFor}
 use Rattle.packing.specs.SeptetCalls.{octetsOf, countOf, packRules, packAnswers, packLeaves, septetsFit, septetsOf, unpackRules, unpackAnswers, unpackLeaves}
 use Rattle.packing.specs.UnitCalls.{ucs2OctetsOf, toOctetsRules, toOctetsAnswers, toOctetsLeaves, unitsFit, unitsOf, toUnitsRules, toUnitsAnswers, toUnitsLeaves}
-use Rattle.packing.specs.Inner.{countedAs, givenAnswers, givenLeaves}
+use Rattle.packing.specs.Inner.{countedAs, givenAnswers, givenLeaves, heldCount}
+use Rattle.stream.proofs.Stream.{unpacked-length}
+use Rattle.packing.specs.ArrayCalls.{allSeptets, allRules, allAnswers, allLeaves}
 use Rattle.packing.proofs.Given.{Gives}
+use Rattle.packing.proofs.Arrays.{kept-front, held-septets}
 
 counted-settled : (b : Bool) (k n : ℕ) → countedAs (settle (verdict (when b NoRoom ∷ [])) Refused (Done k)) n ≡ settle (verdict (when b NoRoom ∷ [])) packed.Refused (packed.Done k n)
 unfolding verdict
@@ -69,6 +75,22 @@ fit-page m n e = eqb-true m 82 (and-left (eqb m 82) (eqb n 0) e)
 pub fit-ussd : (m n : ℕ) → septetsFit Ussd m n ≡ true → m ≤ 160
 fit-ussd m n e = leb-true m 160 (and-left (leb m 160) (eqb n 0) e)
 
+-- as many octets as the septets that they hold take, and no more septets than an array has
+pub fit-held : (service : Service) (m n : ℕ) → septetsFit service m n ≡ true → m ≡ octetsFor (heldCount service m n)
+unfolding octetsFor
+fit-held ShortMessage m n e = fit-short m n e
+fit-held Broadcast m n e = fit-page m n e
+fit-held Ussd m n e =
+    let parts : 8 * m / 7 ≡ 8 * (m / 7) + m % 7 = omega arith in
+    omega (arith, parts)
+fit-held OldPage m n e = fit-page m n e
+
+pub held-most : (service : Service) (m n : ℕ) → septetsFit service m n ≡ true → heldCount service m n ≤ 184
+held-most ShortMessage m n e = omega (arith, leb-true n 160 (and-left (leb n 160) (eqb m (octetsFor n)) e))
+held-most Broadcast m n e = omega arith
+held-most Ussd m n e = omega (arith, fit-ussd m n e)
+held-most OldPage m n e = omega arith
+
 pub fit-units : (m n : ℕ) → unitsFit Broadcast m n ≡ true → m ≡ 82
 fit-units m n e = eqb-true m 82 (and-left (eqb m 82) (eqb n 0) e)
 
@@ -97,3 +119,69 @@ most-holds m k c b size h = simp (le-leb m c (omega arith))
 
 pub most-fails : (m k c : ℕ) (b : Bool) → k ≡ c → k < m → leb m k ≡ (leb m c && b)
 most-fails m k c b size h = simp (lt-leb m k h, lt-leb m c (omega arith))
+
+-- ---- all septets unpacked into an array, which has room for them
+
+module _ (service : Service) (o : List ℕ) (count : ℕ) where
+  pub all-most : septetsFit service (length o) count ≡ true → length (allSeptets service count o) ≤ 184
+  all-most fit =
+      omega (arith, sym (ap length (held-septets service count o)) ∙ unpacked-length (heldCount service (length o) count) o, held-most service (length o) count fit)
+
+  -- what is kept is no more than all of them
+  pub kept-most : length (septetsOf service count o) ≤ length (allSeptets service count o)
+  kept-most =
+      let n : ℕ = length (septetsOf service count o) in
+      let all : List ℕ = allSeptets service count o in
+      elim (decLe n (length all)) [
+        | yes h ↦ h
+        | no h ↦ omega (arith, sym (ap length (kept-front service count o)) ∙ ap length (take-all n all (omega arith)))
+      ]
+
+  fitted : septetsFit service (length o) count ≡ true → allAnswers service o count 184 ≡ Done (length (septetsOf service count o))
+  unfolding allRules allAnswers verdict
+  fitted fit = simp (fit, le-ltb _ _ (all-most fit))
+
+  unfitted : septetsFit service (length o) count ≡ false → allAnswers service o count 184 ≡ Refused WrongLength
+  unfolding allRules allAnswers verdict
+  unfitted wrong = simp wrong
+
+  -- an answer tells whether the octets fit
+  pub array-done : (n : ℕ) → Done n ≡ allAnswers service o count 184 → (septetsFit service (length o) count ≡ true) × (n ≡ length (septetsOf service count o))
+  array-done n e = go (septetsFit service (length o) count) refl
+    where
+      go : (b : Bool) → septetsFit service (length o) count ≡ b → (septetsFit service (length o) count ≡ true) × (n ≡ length (septetsOf service count o))
+      go true fit = let same : Done n ≡ Done (length (septetsOf service count o)) = e ∙ fitted fit in (fit, cc)
+      go false wrong =
+          let other : Done n ≡ Refused WrongLength = e ∙ unfitted wrong in
+          let z : _≡_ {A = ℕ} 0 1 = cc in
+          absurd (omega arith)
+
+  pub array-refused : (r : Refusal) → Refused r ≡ allAnswers service o count 184 → (septetsFit service (length o) count ≡ false) × (r ≡ WrongLength)
+  array-refused r e = go (septetsFit service (length o) count) refl
+    where
+      go : (b : Bool) → septetsFit service (length o) count ≡ b → (septetsFit service (length o) count ≡ false) × (r ≡ WrongLength)
+      go true fit =
+          let other : Refused r ≡ Done (length (septetsOf service count o)) = e ∙ fitted fit in
+          let z : _≡_ {A = ℕ} 0 1 = cc in
+          absurd (omega arith)
+      go false wrong = let same : Refused r ≡ Refused WrongLength = e ∙ unfitted wrong in (wrong, cc)
+
+  array-left : septetsFit service (length o) count ≡ true → allLeaves service o count (replicate 184 0) ≡ laid (allSeptets service count o) (replicate 184 0)
+  unfolding allRules allLeaves verdict
+  array-left fit = simp (fit, le-ltb _ _ (subst (λ (n : ℕ). length (allSeptets service count o) ≤ n) (sym (length-replicate {A = ℕ} 184 0)) (all-most fit)))
+
+  -- the array then has what is kept at its front
+  pub array-length : (array : List ℕ) → septetsFit service (length o) count ≡ true → array ≡ allLeaves service o count (replicate 184 0) → length array ≡ 184
+  array-length array fit e =
+      ap length (e ∙ array-left fit)
+      ∙ laid-length (allSeptets service count o) (replicate 184 0) (omega (arith, all-most fit, length-replicate {A = ℕ} 184 0))
+      ∙ length-replicate {A = ℕ} 184 0
+
+  pub array-front : (array : List ℕ) → septetsFit service (length o) count ≡ true → array ≡ allLeaves service o count (replicate 184 0)
+      → take (length (septetsOf service count o)) array ≡ septetsOf service count o
+  unfolding laid
+  array-front array fit e =
+      let n : ℕ = length (septetsOf service count o) in
+      ap (take n) (e ∙ array-left fit)
+      ∙ take-append-le n (allSeptets service count o) (drop (length (allSeptets service count o)) (replicate 184 0)) kept-most
+      ∙ kept-front service count o

@@ -7,14 +7,15 @@ use Prim.Native.Nat.{ℕ, _+_, _-_, _*_, _/_, _%_, _^_, _≤_, _<_}
 use native.Mathlib.Omega.{arith}
 use lib.Dec.{lit<}
 use lib.ListN.{length, take, drop, length-drop}
-use lib.Seq.{length-take-le}
+use lib.Seq.{length-take-le, take-add}
 use lib.Bits.{bitAnd, and-block, and-mask}
+use lib.Pow.{low}
 use Rattle.words.proofs.Below.{Below, below-take, below-drop}
 use Rattle.stream.specs.Inner.{value, digits}
-use Rattle.stream.proofs.Numbers.{value-digits, value-lt, digits-value, digits-below, digits-length}
+use Rattle.stream.proofs.Numbers.{value-digits, value-lt, digits-value, digits-below, digits-length, value-append}
 
 -- the lowest place of a masked number, and the places above it
-masked : (k j A a B : ℕ) → a < 2 ^ k → 2 ^ j - 1 < 2 ^ k → bitAnd (A * 2 ^ k + a) (B * 2 ^ k + (2 ^ j - 1)) ≡ bitAnd A B * 2 ^ k + a % 2 ^ j
+pub masked : (k j A a B : ℕ) → a < 2 ^ k → 2 ^ j - 1 < 2 ^ k → bitAnd (A * 2 ^ k + a) (B * 2 ^ k + (2 ^ j - 1)) ≡ bitAnd A B * 2 ^ k + a % 2 ^ j
 masked k j A a B h m = and-block k A B a (2 ^ j - 1) h m ∙ ap (λ (t : ℕ). bitAnd A B * 2 ^ k + t) (and-mask a j)
 
 masked-four : (a b c s0 s1 s2 s3 : ℕ) → a < 65536 → b < 65536 → c < 65536 → a % 128 ≡ s0 → b % 128 ≡ s1 → c % 128 ≡ s2 → s3 < 128
@@ -135,12 +136,23 @@ octets-of s at {x} h fits e =
     let small : Below 128 t = below-take 128 (drop at s) (below-drop 128 s h at) 8 in
     ap (digits 256 8) e ∙ ap (λ (n : ℕ). digits 256 n (value 256 t)) (sym size) ∙ digits-value 256 t (λ k. omega (arith, small k))
 
--- seven octets of a list are a number of eight septets
-pub octets-fit : (s : List ℕ) (at : ℕ) → Below 256 s → at + 7 ≤ length s → value 256 (take 7 (drop at s)) < 2 ^ 56
-octets-fit s at h fits =
+-- n octets of a list are a number of n octets: seven of them, a number of eight septets
+pub octets-fit : (s : List ℕ) (at n : ℕ) → Below 256 s → at + n ≤ length s → value 256 (take n (drop at s)) < 256 ^ n
+octets-fit s at n h fits =
+    let t : List ℕ = take n (drop at s) in
+    let size : length t ≡ n = length-take-le n (drop at s) (omega (arith, length-drop at s)) in
+    subst (λ (k : ℕ). value 256 t < 256 ^ k) size (value-lt 256 t (below-take 256 (drop at s) (below-drop 256 s h at) n))
+
+-- eight octets with the last of them dropped
+pub seven-octets : (s : List ℕ) (at : ℕ) → Below 256 s → at + 8 ≤ length s → bitAnd (value 256 (take 8 (drop at s))) 0xffffffffffffff ≡ value 256 (take 7 (drop at s))
+seven-octets s at h fits =
     let t : List ℕ = take 7 (drop at s) in
+    let last : List ℕ = take 1 (drop 7 (drop at s)) in
     let size : length t ≡ 7 = length-take-le 7 (drop at s) (omega (arith, length-drop at s)) in
-    subst (λ (n : ℕ). value 256 t < 256 ^ n) size (value-lt 256 t (below-take 256 (drop at s) (below-drop 256 s h at) 7))
+    and-mask (value 256 (take 8 (drop at s))) 56
+    ∙ ap (λ (l : List ℕ). value 256 l % 2 ^ 56) (take-add 7 1 (drop at s))
+    ∙ ap (λ (x : ℕ). x % 2 ^ 56) (value-append 256 t last ∙ ap (λ (k : ℕ). value 256 last * 256 ^ k + value 256 t) size)
+    ∙ low (value 256 last) 56 (octets-fit s at 7 h (omega arith))
 
 -- the octets of septets that lie apart
 pub septets-apart : (v : ℕ) → digits 256 8 (value 256 (digits 128 8 v)) ≡ digits 128 8 v

@@ -1,4 +1,5 @@
 pub mod Answers
 pub mod SeptetCalls
+pub mod ArrayCalls
 pub mod UnitCalls
 pub mod Inner

@@ -2,6 +2,7 @@
 ghost use mathlib.Core.Path.{_≡_};
 ghost use lib.ListN.{length};
 ghost use Rattle.packing.specs.SeptetCalls.{packAnswers, packLeaves, unpackAnswers, unpackLeaves};
+ghost use Rattle.packing.specs.ArrayCalls.{arrayAnswers, arrayLeaves, allAnswers, allLeaves};
 ghost use Rattle.words.specs.Sizes.{isOldPage};
 ghost use Rattle.packing.specs.Inner.{countedAs};
 ghost use Rattle.packing.specs.UnitCalls.{toOctetsAnswers, toOctetsLeaves, toUnitsAnswers, toUnitsLeaves};
@@ -39,15 +40,32 @@ pub fn pack(service: Service, septets: &[u8], out: &mut [u8]) -> Packed
     if service.most_septets() < n {
         return Packed::Refused(Refusal::TooLong);
     }
-    match service {
-        Service::ShortMessage => counted(septets::pack_run(septets, false, out), n),
-        Service::Broadcast => counted(septets::pack_page(septets, out), 0),
-        Service::Ussd => {
-            let adds = septets::adds_cr(septets);
-            counted(septets::pack_run(septets, adds, out), 0)
-        }
-        Service::OldPage => Packed::Refused(Refusal::Unwritable),
+    let all = septets::septets_sent(service, septets);
+    counted(septets::pack_sent(septets, all, out), septets::length_count(service, septets))
+}
+
+// Packs the low seven bits of an array's septets, and stores as many octets as the first n of them take: how many.
+// Refuses n over 184 (5), then a short buffer (7). What stands in the array after them gives the spare bits of the last octet.
+// Stores the octets at the front of out; a refusal stores nothing.
+pub fn pack_array(septets: &[u8; 184], n: usize, out: &mut [u8]) -> Filled
+    ensures answer { λ r. ⌜ r ≡ arrayAnswers n (length (now (out .entry))) ⌝ }
+    ensures buffer { λ r. ⌜ now (out .exit) ≡ arrayLeaves (now (septets .entry)) n (now (out .entry)) ⌝ }
+{
+    if 184 < n {
+        return Filled::Refused(Refusal::TooLong);
     }
+    let octets = pieces::octets_for(n);
+    if out.len() < octets {
+        return Filled::Refused(Refusal::NoRoom);
+    }
+    let groups = n / 8;
+    pieces::recut(septets, 7, groups, out, 8);
+    let done = 7 * groups;
+    if done < octets {
+        let v = pieces::low_eight(septets, 8 * groups);
+        pieces::put_end(v, out, done, octets - done);
+    }
+    Filled::Done(octets)
 }
 
 // Whether the service is the old page, which is read only.
@@ -79,18 +97,21 @@ pub fn unpack(service: Service, octets: &[u8], count: usize, out: &mut [u8]) -> 
     ensures answer { λ r. ⌜ r ≡ unpackAnswers service (now (octets .entry)) count (length (now (out .entry))) ⌝ }
     ensures buffer { λ r. ⌜ now (out .exit) ≡ unpackLeaves service (now (octets .entry)) count (now (out .entry)) ⌝ }
 {
-    if !septets::fits(service, octets.len(), count) {
-        return Filled::Refused(Refusal::WrongLength);
+    let mut septets = [0u8; 184];
+    match septets::unpack_whole(service, octets, count, &mut septets) {
+        Filled::Done(n) => septets::store(&septets, n, out),
+        Filled::Refused(refusal) => Filled::Refused(refusal),
     }
-    match service {
-        Service::ShortMessage => septets::unpack_run(octets, count, out),
-        Service::Broadcast => septets::unpack_page(octets, 13, out),
-        Service::Ussd => {
-            let kept = septets::ussd_kept(octets);
-            septets::unpack_run(octets, kept, out)
-        }
-        Service::OldPage => septets::unpack_page(octets, 0, out),
-    }
+}
+
+// Unpacks all septets that octets hold under a service, the closing ones that unpack drops too: how many unpack keeps.
+// Refuses octets that do not fit the service or the count (4), then a buffer shorter than all of them (7). Spare bits are ignored.
+// Stores the septets at the front of out; a refusal stores nothing.
+pub fn unpack_all(service: Service, octets: &[u8], count: usize, out: &mut [u8]) -> Filled
+    ensures answer { λ r. ⌜ r ≡ allAnswers service (now (octets .entry)) count (length (now (out .entry))) ⌝ }
+    ensures buffer { λ r. ⌜ now (out .exit) ≡ allLeaves service (now (octets .entry)) count (now (out .entry)) ⌝ }
+{
+    septets::unpack_whole(service, octets, count, out)
 }
 
 // UCS2 units as octets, high octet first: how many octets. A broadcast page is filled up with 000D.

@@ -6,6 +6,7 @@ ghost use lib.ListN.{length, getD, take, drop};
 ghost use Rattle.words.specs.Lists.{laid};
 ghost use Rattle.stream.specs.Stream.{octetsFor};
 ghost use Rattle.stream.specs.Inner.{value, digits};
+ghost use Rattle.packing.specs.Inner.{lowOf};
 
 // How many octets n septets take. (7n could overflow.)
 pub(crate) fn octets_for(n: usize) -> usize
@@ -21,30 +22,28 @@ fn wide(x: u8) -> u64
     x as u64
 }
 
-// n pieces of w bits from at on as one number, the first lowest.
-pub(crate) fn join(pieces: &[u8], at: usize, n: usize, w: usize) -> u64
-    requires { ⌜ ((k : ℕ) → getD (now pieces) k 0 < 2 ^ w) ⌝ }
-    requires { ⌜ (at + n ≤ length (now pieces)) × (n ≤ 8) × (w ≤ 8) ⌝ }
-    ensures { λ r. ⌜ r ≡ value (2 ^ w) (take n (drop at (now (pieces .entry)))) ⌝ }
+// n octets from at on as one number, the first lowest.
+fn join(octets: &[u8], at: usize, n: usize) -> u64
+    requires { ⌜ (at + n ≤ length (now octets)) × (n ≤ 8) ⌝ }
+    ensures { λ r. ⌜ r ≡ value 256 (take n (drop at (now (octets .entry)))) ⌝ }
 {
     let mut v: u64 = 0;
     let mut i: usize = 0;
     while i < n {
-        v = v | (wide(pieces[at + i]) << (w * i));
+        v = v | (wide(octets[at + i]) << (8 * i));
         i += 1;
     }
     v
 }
 
-// The lowest bits of v as n pieces of u bits from at on, the lowest first.
-pub(crate) fn spread(v: u64, out: &mut [u8], at: usize, n: usize, u: usize)
-    requires { ⌜ (at + n ≤ length (now out)) × (n ≤ 8) × (u ≤ 8) ⌝ }
-    ensures { λ _. ⌜ now (out .exit) ≡ take at (now (out .entry)) ++ digits (2 ^ u) n v ++ drop (at + n) (now (out .entry)) ⌝ }
+// The lowest n octets of v from at on, the lowest first.
+fn spread(v: u64, out: &mut [u8], at: usize, n: usize)
+    requires { ⌜ (at + n ≤ length (now out)) × (n ≤ 8) ⌝ }
+    ensures { λ _. ⌜ now (out .exit) ≡ take at (now (out .entry)) ++ digits 256 n v ++ drop (at + n) (now (out .entry)) ⌝ }
 {
-    let mask: u64 = (1 << u) - 1;
     let mut i: usize = 0;
     while i < n {
-        out[at + i] = ((v >> (u * i)) & mask) as u8;
+        out[at + i] = ((v >> (8 * i)) & 0xff) as u8;
         i += 1;
     }
 }
@@ -61,7 +60,7 @@ fn squeeze(x: u64) -> u64
 }
 
 // The way back: eight septets that lie together, moved apart, one into each octet.
-fn stretch(v: u64) -> u64
+pub(crate) fn stretch(v: u64) -> u64
     requires { ⌜ v < 2 ^ 56 ⌝ }
     ensures { λ r. ⌜ r ≡ value 256 (digits 128 8 v) ⌝ }
 {
@@ -70,33 +69,38 @@ fn stretch(v: u64) -> u64
     pairs + 0x80 * ((pairs >> 7) & 0x007f007f007f007f)
 }
 
-// Eight septets from from on as seven octets from to on.
-fn pack_group(septets: &[u8], from: usize, out: &mut [u8], to: usize)
-    requires { ⌜ ((k : ℕ) → getD (now septets) k 0 < 128) ⌝ }
-    requires { ⌜ (from + 8 ≤ length (now septets)) × (to + 7 ≤ length (now out)) ⌝ }
-    ensures { λ _. ⌜ now (out .exit) ≡ take to (now (out .entry)) ++ digits 256 7 (value 128 (take 8 (drop from (now (septets .entry))))) ++ drop (to + 7) (now (out .entry)) ⌝ }
+// The low seven bits of eight septets from at on as one number, the first lowest.
+pub(crate) fn low_eight(septets: &[u8], at: usize) -> u64
+    requires { ⌜ at + 8 ≤ length (now septets) ⌝ }
+    ensures { λ r. ⌜ r ≡ value 128 (take 8 (drop at (lowOf 7 (now (septets .entry))))) ⌝ }
 {
-    let x = join(septets, from, 8, 8);
-    let v = squeeze(x);
-    spread(v, out, to, 7, 8);
+    squeeze(join(septets, at, 8) & 0x7f7f7f7f7f7f7f7f)
 }
 
-// Seven octets from from on as eight septets from to on.
-fn unpack_group(octets: &[u8], from: usize, out: &mut [u8], to: usize)
-    requires { ⌜ ((k : ℕ) → getD (now octets) k 0 < 256) ⌝ }
-    requires { ⌜ (from + 7 ≤ length (now octets)) × (to + 8 ≤ length (now out)) ⌝ }
-    ensures { λ _. ⌜ now (out .exit) ≡ take to (now (out .entry)) ++ digits 128 8 (value 256 (take 7 (drop from (now (octets .entry))))) ++ drop (to + 8) (now (out .entry)) ⌝ }
+// Eight septets from from on as seven octets from to on.
+fn pack_group(septets: &[u8], from: usize, out: &mut [u8], to: usize)
+    requires { ⌜ (from + 8 ≤ length (now septets)) × (to + 7 ≤ length (now out)) ⌝ }
+    ensures { λ _. ⌜ now (out .exit) ≡ take to (now (out .entry)) ++ digits 256 7 (value 128 (take 8 (drop from (lowOf 7 (now (septets .entry)))))) ++ drop (to + 7) (now (out .entry)) ⌝ }
 {
-    let v = join(octets, from, 7, 8);
+    let v = low_eight(septets, from);
+    spread(v, out, to, 7);
+}
+
+// Seven octets from from on as eight septets from to on. Joined as eight with the last dropped, where eight are there, the compiler loads
+// them in fewer pieces.
+fn unpack_group(octets: &[u8], from: usize, out: &mut [u8], to: usize)
+    requires { ⌜ (from + 7 ≤ length (now octets)) × (to + 8 ≤ length (now out)) ⌝ }
+    ensures { λ _. ⌜ now (out .exit) ≡ take to (now (out .entry)) ++ digits 128 8 (value 256 (take 7 (drop from (lowOf 8 (now (octets .entry)))))) ++ drop (to + 8) (now (out .entry)) ⌝ }
+{
+    let v = if from + 8 <= octets.len() { join(octets, from, 8) & 0xffffffffffffff } else { join(octets, from, 7) };
     let x = stretch(v);
-    spread(x, out, to, 8, 8);
+    spread(x, out, to, 8);
 }
 
 // u pieces of w bits from from on as w pieces of u bits from to on.
 fn recut_group(pieces: &[u8], w: usize, from: usize, out: &mut [u8], u: usize, to: usize)
-    requires { ⌜ ((k : ℕ) → getD (now pieces) k 0 < 2 ^ w) ⌝ }
     requires { ⌜ (from + u ≤ length (now pieces)) × (to + w ≤ length (now out)) × (7 ≤ w) × (w + u ≡ 15) × (w ≤ 8) ⌝ }
-    ensures { λ _. ⌜ now (out .exit) ≡ take to (now (out .entry)) ++ digits (2 ^ u) w (value (2 ^ w) (take u (drop from (now (pieces .entry))))) ++ drop (to + w) (now (out .entry)) ⌝ }
+    ensures { λ _. ⌜ now (out .exit) ≡ take to (now (out .entry)) ++ digits (2 ^ u) w (value (2 ^ w) (take u (drop from (lowOf w (now (pieces .entry)))))) ++ drop (to + w) (now (out .entry)) ⌝ }
 {
     if w == 7 {
         pack_group(pieces, from, out, to);
@@ -105,15 +109,58 @@ fn recut_group(pieces: &[u8], w: usize, from: usize, out: &mut [u8], u: usize, t
     }
 }
 
-// Whole groups: eight septets to seven octets or back, u pieces of w bits to w pieces of u bits.
+// Whole groups: eight septets to seven octets or back, u pieces of w bits to w pieces of u bits. Of a piece its low w bits are taken.
 pub(crate) fn recut(pieces: &[u8], w: usize, groups: usize, out: &mut [u8], u: usize)
-    requires { ⌜ ((k : ℕ) → getD (now pieces) k 0 < 2 ^ w) ⌝ }
     requires { ⌜ (u * groups ≤ length (now pieces)) × (w * groups ≤ length (now out)) × (7 ≤ w) × (w + u ≡ 15) × (w ≤ 8) ⌝ }
-    ensures { λ _. ⌜ now (out .exit) ≡ laid (digits (2 ^ u) (w * groups) (value (2 ^ w) (take (u * groups) (now (pieces .entry))))) (now (out .entry)) ⌝ }
+    ensures { λ _. ⌜ now (out .exit) ≡ laid (digits (2 ^ u) (w * groups) (value (2 ^ w) (take (u * groups) (lowOf w (now (pieces .entry)))))) (now (out .entry)) ⌝ }
 {
     let mut g: usize = 0;
     while g < groups {
         recut_group(pieces, w, u * g, out, u, w * g);
         g += 1;
     }
+}
+
+// The lowest n octets of v from at on, in runs of four, two and one: a loop over what whole groups leave would cost several instructions
+// an octet.
+pub(crate) fn put_end(v: u64, out: &mut [u8], at: usize, n: usize)
+    requires { ⌜ (at + n ≤ length (now out)) × (n < 8) ⌝ }
+    ensures { λ _. ⌜ now (out .exit) ≡ take at (now (out .entry)) ++ digits 256 n v ++ drop (at + n) (now (out .entry)) ⌝ }
+{
+    let mut w = v;
+    let mut k = at;
+    if 4 <= n {
+        spread(w, out, k, 4);
+        w = w >> 32;
+        k += 4;
+    }
+    if 2 <= n % 4 {
+        spread(w, out, k, 2);
+        w = w >> 16;
+        k += 2;
+    }
+    if n % 2 == 1 {
+        spread(w, out, k, 1);
+    }
+}
+
+// n octets from at on as one number, the first lowest, in such runs.
+pub(crate) fn take_end(octets: &[u8], at: usize, n: usize) -> u64
+    requires { ⌜ (at + n ≤ length (now octets)) × (n < 8) ⌝ }
+    ensures { λ r. ⌜ r ≡ value 256 (take n (drop at (now (octets .entry)))) ⌝ }
+{
+    let mut v: u64 = 0;
+    let mut k = at + n;
+    if n % 2 == 1 {
+        k -= 1;
+        v = wide(octets[k]);
+    }
+    if 2 <= n % 4 {
+        k -= 2;
+        v = (v << 16) | join(octets, k, 2);
+    }
+    if 4 <= n {
+        v = (v << 32) | join(octets, at, 4);
+    }
+    v
 }

@@ -1,20 +1,22 @@
-// The packings of septets: the test of each septet, the CR that USSD adds and drops, and the page of 93 septets.
+// The packings of septets: the test of each septet, what a service adds after a text, and how much it drops on reading.
 ghost use mathlib.Core.Path.{_≡_};
-ghost use Prim.Native.Nat.{ℕ, _+_, _≤_, _<_};
+ghost use Prim.Native.Nat.{ℕ, _≤_, _<_};
+ghost use mathlib.Core.Bool.{true};
 ghost use lib.Dec.{leb};
-ghost use lib.ListN.{length, getD, take, drop};
+ghost use lib.ListN.{length, getD, take, replicate};
+ghost use Rattle.words.specs.Sizes.{mostSeptets};
 ghost use Rattle.words.specs.Lists.{laid, firstPlace};
 ghost use Rattle.words.specs.Closing.{withoutClosing};
 ghost use Rattle.stream.specs.Stream.{octetsFor, packed, unpacked};
-ghost use Rattle.stream.specs.UssdPacking.{addsCr, withCr, ussdSeptets};
-ghost use Rattle.stream.specs.Pages.{page, pageOctets};
-ghost use Rattle.packing.specs.SeptetCalls.{septetsFit};
-ghost use Rattle.stream.specs.Inner.{value, withCount};
-ghost use Rattle.packing.specs.Inner.{givenAnswers, givenLeaves};
-use crate::pieces::join;
+ghost use Rattle.stream.specs.UssdPacking.{addsCr};
+ghost use Rattle.packing.specs.SeptetCalls.{septetsFit, countOf};
+ghost use Rattle.packing.specs.ArrayCalls.{allAnswers, allLeaves};
+ghost use Rattle.packing.specs.Inner.{givenAnswers, givenLeaves, withCrs, sentSeptets, heldCount, keptCount};
 use crate::pieces::octets_for;
+use crate::pieces::put_end;
 use crate::pieces::recut;
-use crate::pieces::spread;
+use crate::pieces::stretch;
+use crate::pieces::take_end;
 use words::Filled;
 use words::Refusal;
 use words::Service;
@@ -66,67 +68,67 @@ pub(crate) fn adds_cr(septets: &[u8]) -> bool
     false
 }
 
-// How many septets there are with the CR, where one is added.
-fn with_cr(n: usize, adds: bool) -> usize
-    requires { ⌜ n ≤ 182 ⌝ }
-    ensures { λ r. ⌜ r ≡ withCount adds n ⌝ }
-{
-    if adds { n + 1 } else { n }
-}
-
-// The septets from at on, and the CR above them where one is added, as one number.
-fn last_group(septets: &[u8], at: usize, adds: bool) -> u64
-    requires { ⌜ ((k : ℕ) → getD (now septets) k 0 < 128) ⌝ }
-    requires { ⌜ (at ≤ length (now septets)) × (length (now septets) ≤ at + 7) ⌝ }
-    ensures { λ r. ⌜ r ≡ value 128 (withCr adds (drop at (now (septets .entry)))) ⌝ }
-{
-    let rest = septets.len() - at;
-    let v = join(septets, at, rest, 7);
-    if adds { v | (13 << (7 * rest)) } else { v }
-}
-
-// Packs septets, and one CR after them where it is added.
-pub(crate) fn pack_run(septets: &[u8], adds: bool, out: &mut [u8]) -> Filled
-    requires { ⌜ ((k : ℕ) → getD (now septets) k 0 < 128) ⌝ }
-    requires { ⌜ length (now septets) ≤ 182 ⌝ }
-    ensures { λ r. ⌜ r ≡ givenAnswers (packed (withCr adds (now (septets .entry)))) (length (now (out .entry))) ⌝ }
-    ensures { λ r. ⌜ now (out .exit) ≡ givenLeaves (packed (withCr adds (now (septets .entry)))) (now (out .entry)) ⌝ }
+// How many septets are packed for a text: those of the text, and the CRs that the service adds.
+pub(crate) fn septets_sent(service: Service, septets: &[u8]) -> usize
+    requires { ⌜ length (now septets) ≤ mostSeptets service ⌝ }
+    ensures { λ r. ⌜ r ≡ length (sentSeptets service (now (septets .entry))) ⌝ }
 {
     let n = septets.len();
-    let octets = octets_for(with_cr(n, adds));
-    if out.len() < octets {
-        return Filled::Refused(Refusal::NoRoom);
+    match service {
+        Service::ShortMessage => n,
+        Service::Broadcast => 93,
+        Service::Ussd => {
+            if adds_cr(septets) {
+                n + 1
+            } else {
+                n
+            }
+        }
+        Service::OldPage => n,
     }
-    let groups = n / 8;
-    recut(septets, 7, groups, out, 8);
-    let v = last_group(septets, 8 * groups, adds);
-    spread(v, out, 7 * groups, octets - 7 * groups, 8);
-    Filled::Done(octets)
 }
 
-// The page of a text: 93 CR, and the text over the front.
-fn lay(septets: &[u8]) -> [u8; 93]
-    requires { ⌜ length (now septets) ≤ 93 ⌝ }
-    ensures { λ r. ⌜ r ≡ page (now (septets .entry)) ⌝ }
+// The length count that travels with the septets of a text.
+pub(crate) fn length_count(service: Service, septets: &[u8]) -> usize
+    ensures { λ r. ⌜ r ≡ countOf service (now (septets .entry)) ⌝ }
 {
-    let mut page = [13u8; 93];
+    match service {
+        Service::ShortMessage => septets.len(),
+        Service::Broadcast => 0,
+        Service::Ussd => 0,
+        Service::OldPage => 0,
+    }
+}
+
+// The septets of a text, CRs after them up to all, and zeros above, which give the spare bits of the last octet.
+fn lay(septets: &[u8], all: usize) -> [u8; 184]
+    requires { ⌜ (length (now septets) ≤ all) × (all ≤ 184) ⌝ }
+    ensures { λ r. ⌜ r ≡ laid (withCrs all (now (septets .entry))) (replicate 184 0) ⌝ }
+{
+    let mut array = [0u8; 184];
     let mut i: usize = 0;
     while i < septets.len() {
-        page[i] = septets[i];
+        array[i] = septets[i];
         i += 1;
     }
-    page
+    while i < all {
+        array[i] = 13;
+        i += 1;
+    }
+    array
 }
 
-// Packs the page of a text.
-pub(crate) fn pack_page(septets: &[u8], out: &mut [u8]) -> Filled
+// Packs a text with CRs after it up to all. With the zeros above the last group is whole, so that no end is left.
+pub(crate) fn pack_sent(septets: &[u8], all: usize, out: &mut [u8]) -> Filled
     requires { ⌜ ((k : ℕ) → getD (now septets) k 0 < 128) ⌝ }
-    requires { ⌜ length (now septets) ≤ 93 ⌝ }
-    ensures { λ r. ⌜ r ≡ givenAnswers (pageOctets (now (septets .entry))) (length (now (out .entry))) ⌝ }
-    ensures { λ r. ⌜ now (out .exit) ≡ givenLeaves (pageOctets (now (septets .entry))) (now (out .entry)) ⌝ }
+    requires { ⌜ (length (now septets) ≤ all) × (all ≤ 184) ⌝ }
+    ensures { λ r. ⌜ r ≡ givenAnswers (packed (withCrs all (now (septets .entry)))) (length (now (out .entry))) ⌝ }
+    ensures { λ r. ⌜ now (out .exit) ≡ givenLeaves (packed (withCrs all (now (septets .entry)))) (now (out .entry)) ⌝ }
 {
-    let page = lay(septets);
-    pack_run(&page, false, out)
+    let array = lay(septets, all);
+    let mut octets = [0u8; 184];
+    recut(&array, 7, (all + 7) / 8, &mut octets, 8);
+    store(&octets, octets_for(all), out)
 }
 
 // Whether so many octets fit the service and the count.
@@ -150,55 +152,87 @@ fn unpack_into(octets: &[u8], n: usize, out: &mut [u8])
     let groups = n / 8;
     recut(octets, 8, groups, out, 7);
     let rest = n % 8;
-    let v = join(octets, 7 * groups, rest, 8);
-    spread(v, out, 8 * groups, rest, 7);
+    if 0 < rest {
+        let v = take_end(octets, 7 * groups, rest);
+        put_end(stretch(v), out, 8 * groups, rest);
+    }
 }
 
-// Unpacks n septets.
-pub(crate) fn unpack_run(octets: &[u8], n: usize, out: &mut [u8]) -> Filled
-    requires { ⌜ length (now octets) ≡ octetsFor n ⌝ }
-    ensures { λ r. ⌜ r ≡ givenAnswers (unpacked n (now (octets .entry))) (length (now (out .entry))) ⌝ }
-    ensures { λ r. ⌜ now (out .exit) ≡ givenLeaves (unpacked n (now (octets .entry))) (now (out .entry)) ⌝ }
+// Stores the first n elements of an array.
+pub(crate) fn store(array: &[u8; 184], n: usize, out: &mut [u8]) -> Filled
+    requires { ⌜ (n ≤ 184) × (length (now array) ≡ 184) ⌝ }
+    ensures { λ r. ⌜ r ≡ givenAnswers (take n (now (array .entry))) (length (now (out .entry))) ⌝ }
+    ensures { λ r. ⌜ now (out .exit) ≡ givenLeaves (take n (now (array .entry))) (now (out .entry)) ⌝ }
 {
     if out.len() < n {
         return Filled::Refused(Refusal::NoRoom);
     }
-    unpack_into(octets, n, out);
+    let mut i: usize = 0;
+    while i < n {
+        out[i] = array[i];
+        i += 1;
+    }
     Filled::Done(n)
 }
 
-// How many septets a USSD string holds. The last septet of whole groups is the upper seven bits of the last octet.
-pub(crate) fn ussd_kept(octets: &[u8]) -> usize
-    requires { ⌜ length (now octets) ≤ 160 ⌝ }
-    ensures { λ r. ⌜ r ≡ length (ussdSeptets (now (octets .entry))) ⌝ }
+// Unpacks all septets that octets hold under a service: how many are left of a text.
+pub(crate) fn unpack_whole(service: Service, octets: &[u8], count: usize, out: &mut [u8]) -> Filled
+    ensures { λ r. ⌜ r ≡ allAnswers service (now (octets .entry)) count (length (now (out .entry))) ⌝ }
+    ensures { λ r. ⌜ now (out .exit) ≡ allLeaves service (now (octets .entry)) count (now (out .entry)) ⌝ }
 {
-    let m = octets.len();
-    let n = m + m / 7;
-    if 0 < m {
-        if m % 7 == 0 {
-            if octets[m - 1] >> 1 == 13 {
-                return n - 1;
-            }
-        }
+    if !fits(service, octets.len(), count) {
+        return Filled::Refused(Refusal::WrongLength);
     }
-    n
+    let all = septets_held(service, octets.len(), count);
+    if out.len() < all {
+        return Filled::Refused(Refusal::NoRoom);
+    }
+    unpack_into(octets, all, out);
+    Filled::Done(text_length(service, out, all))
 }
 
-// All 93 septets of a page.
-fn page_of(octets: &[u8]) -> [u8; 93]
-    requires { ⌜ length (now octets) ≡ 82 ⌝ }
-    ensures { λ r. ⌜ r ≡ unpacked 93 (now (octets .entry)) ⌝ }
+// How many septets so many octets hold, the closing ones too.
+fn septets_held(service: Service, octets: usize, count: usize) -> usize
+    requires { ⌜ septetsFit service octets count ≡ true ⌝ }
+    ensures { λ r. ⌜ r ≡ heldCount service octets count ⌝ }
 {
-    let mut page = [0u8; 93];
-    unpack_into(octets, 93, &mut page);
-    page
+    match service {
+        Service::ShortMessage => count,
+        Service::Broadcast => 93,
+        Service::Ussd => octets + octets / 7,
+        Service::OldPage => 93,
+    }
 }
 
-// How many septets are left without the filling that closes them.
-fn kept(septets: &[u8], filling: u8) -> usize
-    ensures { λ r. ⌜ r ≡ length (withoutClosing filling (now (septets .entry))) ⌝ }
+// How many of the first n septets, all that were unpacked, are left of a text: without the filling of a page, or the CR that closes whole
+// groups of eight under USSD.
+fn text_length(service: Service, septets: &[u8], n: usize) -> usize
+    requires { ⌜ n ≤ length (now septets) ⌝ }
+    ensures { λ r. ⌜ r ≡ keptCount service (take n (now (septets .entry))) ⌝ }
 {
-    let mut n = septets.len();
+    match service {
+        Service::ShortMessage => n,
+        Service::Broadcast => kept(septets, n, 13),
+        Service::Ussd => {
+            if n % 8 == 0 {
+                if 0 < n {
+                    if septets[n - 1] == 13 {
+                        return n - 1;
+                    }
+                }
+            }
+            n
+        }
+        Service::OldPage => kept(septets, n, 0),
+    }
+}
+
+// How many of the first all septets are left without the filling that closes them.
+fn kept(septets: &[u8], all: usize, filling: u8) -> usize
+    requires { ⌜ all ≤ length (now septets) ⌝ }
+    ensures { λ r. ⌜ r ≡ length (withoutClosing filling (take all (now (septets .entry)))) ⌝ }
+{
+    let mut n = all;
     while 0 < n {
         if septets[n - 1] != filling {
             return n;
@@ -206,32 +240,4 @@ fn kept(septets: &[u8], filling: u8) -> usize
         n -= 1;
     }
     n
-}
-
-// Stores the first n of the septets.
-fn store(septets: &[u8], n: usize, out: &mut [u8]) -> Filled
-    requires { ⌜ n ≤ length (now septets) ⌝ }
-    ensures { λ r. ⌜ r ≡ givenAnswers (take n (now (septets .entry))) (length (now (out .entry))) ⌝ }
-    ensures { λ r. ⌜ now (out .exit) ≡ givenLeaves (take n (now (septets .entry))) (now (out .entry)) ⌝ }
-{
-    if out.len() < n {
-        return Filled::Refused(Refusal::NoRoom);
-    }
-    let mut i: usize = 0;
-    while i < n {
-        out[i] = septets[i];
-        i += 1;
-    }
-    Filled::Done(n)
-}
-
-// Unpacks a page without the filling that closes it.
-pub(crate) fn unpack_page(octets: &[u8], filling: u8, out: &mut [u8]) -> Filled
-    requires { ⌜ length (now octets) ≡ 82 ⌝ }
-    ensures { λ r. ⌜ r ≡ givenAnswers (withoutClosing filling (unpacked 93 (now (octets .entry)))) (length (now (out .entry))) ⌝ }
-    ensures { λ r. ⌜ now (out .exit) ≡ givenLeaves (withoutClosing filling (unpacked 93 (now (octets .entry)))) (now (out .entry)) ⌝ }
-{
-    let page = page_of(octets);
-    let n = kept(&page, filling);
-    store(&page, n, out)
 }

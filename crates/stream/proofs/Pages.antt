@@ -17,7 +17,7 @@ use Rattle.stream.specs.Pages.{page}
 use Rattle.stream.specs.Ucs2.{unitPage}
 
 -- filling with its front taken off is less filling
-replicate-drop : (k n x : ℕ) → drop k (replicate n x) ≡ replicate (n - k) x
+pub replicate-drop : (k n x : ℕ) → drop k (replicate n x) ≡ replicate (n - k) x
 replicate-drop zero n x = ap (λ (m : ℕ). replicate m x) (sym (sub-zero n))
 replicate-drop (suc k) zero x = let none : 0 ≡ 0 - suc k = omega arith in ap (λ (m : ℕ). replicate m x) none
 replicate-drop (suc k) (suc n) x = replicate-drop k n x ∙ ap (λ (m : ℕ). replicate m x) (sym (suc-sub-suc n k))

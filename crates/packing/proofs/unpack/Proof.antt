@@ -1,160 +1,83 @@
--- Rule 4 is judged whole; past it each service stores its septets, and the room is judged there.
-use Prim.Native.Nat.{ℕ}
+-- All septets are unpacked into an array, which has room for them, so that only rule 4 can refuse there; what is kept of them is stored from its front.
+use Prim.Native.Nat.{ℕ, _≤_}
 use mathlib.Core.Path.{_≡_, refl, sym, ap, _∙_, subst}
 use mathlib.Core.Bool.{true, false}
 use mathlib.Core.List.{List}
-use borrow.Author.Tests.{not-true, not-false}
-use lib.ListN.{length}
-use Rattle.words.specs.declared.Service.{Service}
-use Rattle.words.specs.declared.Service.the-variants.{ShortMessage, Broadcast, Ussd, OldPage}
+use native.Mathlib.Omega.{arith}
+use lib.ListN.{length, take}
+use Rattle.words.specs.declared.Refusal.{Refusal}
+use Rattle.words.specs.declared.Filled.the-variants.{Refused}
 use Rattle.words.specs.Judging.{verdict}
-use Rattle.stream.specs.Stream.{octetsFor, unpacked}
-use Rattle.stream.specs.Pages.{pageSeptets}
-use Rattle.stream.specs.OldPage.{oldPageSeptets}
-use Rattle.packing.specs.SeptetCalls.{septetsFit, unpackRules, unpackAnswers, unpackLeaves}
+use Rattle.packing.specs.SeptetCalls.{septetsFit, septetsOf, unpackRules, unpackAnswers, unpackLeaves}
 use Rattle.packing.proofs.Given.{Gives}
-use Rattle.stream.proofs.Ussd.{kept-octets, kept-septets}
-use Rattle.packing.proofs.Calls.{unpack-passed, fit-short, fit-page, fit-ussd}
+use Rattle.packing.proofs.Calls.{unpack-passed, all-most, kept-most, array-done, array-refused, array-length, array-front}
 use borrow.Author.Needs.{needs}
 use Rattle.packing.proofs.unpack.Statement.{statement}
 use Rattle.packing.proofs.unpack.Tie as tie
 
-fits-requires : tie.Need-fits-requires
-fits-requires c κs = search needs
+slice-aggregate-unpack-whole : tie.Need-slice-aggregate-unpack-whole
+slice-aggregate-unpack-whole c = search needs
 
-returns : tie.Need-returns
-unfolding unpackRules unpackAnswers unpackLeaves verdict
-returns c =
-    let a = c .before .before .before .before .args in
-    let wrong : septetsFit (a .service) (length (a .octets .now)) (a .count) ≡ false = sym (c .before .fits2 .ensures) ∙ not-true (c .before .fits2 .result) (c .if1 .taken) in
-    simp wrong (refl, refl)
+unpack-whole-requires : tie.Need-unpack-whole-requires
+unpack-whole-requires c κs = search needs
 
-enum-told : tie.Need-enum-told
-enum-told c = search needs
+enum-known-n : tie.Need-enum-known-n
+enum-known-n c = search needs
 
--- past rule 4, at the service that is told
-fit : (c : tie.Else1) (service : Service) → c .before .before .before .before .args .service ≡ service
-    → let a = c .before .before .before .before .args in septetsFit service (length (a .octets .now)) (a .count) ≡ true
-fit c service e =
-    let a = c .before .before .before .before .args in
-    ap (λ (x : Service). septetsFit x (length (a .octets .now)) (a .count)) (sym e) ∙ sym (c .before .fits2 .ensures) ∙ not-false (c .before .fits2 .result) (c .if1 .left)
+-- the octets fit, and n septets are kept
+fit : (c : tie.After-n) → let a = c .before .before .before .before .before .before .before .args in
+    (septetsFit (a .service) (length (a .octets .now)) (a .count) ≡ true) × (c .n .given .0 .0 ≡ length (septetsOf (a .service) (a .count) (a .octets .now)))
+fit c =
+    let call = c .before .before .before in
+    let a = call .before .before .before .before .args in
+    array-done (a .service) (a .octets .now) (a .count) (c .n .given .0 .0) (sym (c .n .given .1) ∙ call .unpack-whole .ensures .0)
 
-unpack-run-requires : tie.Need-unpack-run-requires
-unpack-run-requires c κs =
-    let told = c .before in
-    let judged = told .before .before in
-    let a = judged .before .before .before .before .args in
-    fit-short (length (a .octets .now)) (a .count) (fit judged ShortMessage (told .enum-told .given .1))
+store-requires : tie.Need-store-requires
+store-requires c κs =
+    let known = c .before .before .before in
+    let call = known .before .before .before in
+    let a = call .before .before .before .before .args in
+    let f = fit known in
+    (omega (arith, f .1, kept-most (a .service) (a .octets .now) (a .count), all-most (a .service) (a .octets .now) (a .count) (f .0)),
+    array-length (a .service) (a .octets .now) (a .count) (call .unpack-whole .last .1 .1 .1 .0) (f .0) (call .unpack-whole .ensures .1))
 
-enum-told-2 : tie.Need-enum-told-2
-enum-told-2 c = search needs
-
-unpack-page-requires : tie.Need-unpack-page-requires
-unpack-page-requires c κs =
-    let told = c .before in
-    let judged = told .before .before in
-    let a = judged .before .before .before .before .args in
-    fit-page (length (a .octets .now)) (a .count) (fit judged Broadcast (told .enum-told2 .given .1))
-
-enum-told-3 : tie.Need-enum-told-3
-enum-told-3 c = search needs
-
-ussd-kept-requires : tie.Need-ussd-kept-requires
-ussd-kept-requires c κs =
-    let judged = c .before .before in
-    let a = judged .before .before .before .before .args in
-    fit-ussd (length (a .octets .now)) (a .count) (fit judged Ussd (c .enum-told3 .given .1))
-
-unpack-run-requires-2 : tie.Need-unpack-run-requires-2
-unpack-run-requires-2 c κs =
-    let kept = c .before in
-    let a = kept .before .before .before .before .before .before .before .args in
-    kept-octets (a .octets .now) ∙ ap octetsFor (sym (kept .ussd-kept .ensures))
-
-enum-told-4 : tie.Need-enum-told-4
-enum-told-4 c = search needs
-
-unpack-page-requires-2 : tie.Need-unpack-page-requires-2
-unpack-page-requires-2 c κs =
-    let told = c .before in
-    let judged = told .before .before in
-    let a = judged .before .before .before .before .args in
-    fit-page (length (a .octets .now)) (a .count) (fit judged OldPage (told .enum-told4 .given .1))
+enum-known-refusal : tie.Need-enum-known-refusal
+enum-known-refusal c = search needs
 
 same-length : tie.Need-same-length
 same-length c = search needs
 
+returns : tie.Need-returns
+returns c =
+    let stored = c .before .before in
+    let known = stored .before .before .before .before in
+    let call = known .before .before .before in
+    let a = call .before .before .before .before .args in
+    let f = fit known in
+    let array : List ℕ = call .unpack-whole .last .1 .1 .1 .0 in
+    let front : take (known .n .given .0 .0) array ≡ septetsOf (a .service) (a .count) (a .octets .now) =
+    ap (λ (n : ℕ). take n array) (f .1) ∙ array-front (a .service) (a .octets .now) (a .count) array (f .0) (call .unpack-whole .ensures .1) in
+    unpack-passed (a .service) (a .octets .now) (a .out .now) (a .count) (f .0)
+    (subst (λ (s : List ℕ). Gives s (a .out .now) (stored .store .result) (stored .store .last .1 .1 .0)) front (stored .store .ensures))
+
 returns-2 : tie.Need-returns-2
+unfolding unpackRules unpackAnswers unpackLeaves verdict
 returns-2 c =
-    let run = c .before .before in
-    let told = run .before .before in
-    let judged = told .before .before in
-    let a = judged .before .before .before .before .args in
-    let e = told .enum-told .given .1 in
-    rw e (unpack-passed ShortMessage (a .octets .now) (a .out .now) (a .count) (fit judged ShortMessage e) (run .unpack-run .ensures))
-
-same-length-2 : tie.Need-same-length-2
-same-length-2 c = search needs
-
-returns-3 : tie.Need-returns-3
-unfolding pageSeptets
-returns-3 c =
-    let run = c .before .before in
-    let told = run .before .before in
-    let judged = told .before .before in
-    let a = judged .before .before .before .before .args in
-    let e = told .enum-told2 .given .1 in
-    rw e (unpack-passed Broadcast (a .octets .now) (a .out .now) (a .count) (fit judged Broadcast e) (run .unpack-page .ensures))
-
-same-length-3 : tie.Need-same-length-3
-same-length-3 c = search needs
-
-returns-4 : tie.Need-returns-4
-returns-4 c =
-    let run = c .before .before in
-    let kept = run .before .before in
-    let told = kept .before in
-    let judged = told .before .before in
-    let a = judged .before .before .before .before .args in
-    let e = told .enum-told3 .given .1 in
-    let o : List ℕ = a .octets .now in
-    rw e
-    (unpack-passed Ussd o (a .out .now) (a .count) (fit judged Ussd e)
-    (subst (λ (s : List ℕ). Gives s (a .out .now) (run .unpack-run2 .result) (run .unpack-run2 .last .1 .1 .0)) (ap (λ (n : ℕ). unpacked n o) (kept .ussd-kept .ensures) ∙ kept-septets o) (run .unpack-run2 .ensures)))
-
-same-length-4 : tie.Need-same-length-4
-same-length-4 c = search needs
-
-returns-5 : tie.Need-returns-5
-unfolding oldPageSeptets
-returns-5 c =
-    let run = c .before .before in
-    let told = run .before .before in
-    let judged = told .before .before in
-    let a = judged .before .before .before .before .args in
-    let e = told .enum-told4 .given .1 in
-    rw e (unpack-passed OldPage (a .octets .now) (a .out .now) (a .count) (fit judged OldPage e) (run .unpack-page2 .ensures))
+    let known = c .before in
+    let call = known .before .before .before in
+    let a = call .before .before .before .before .args in
+    let f = array-refused (a .service) (a .octets .now) (a .count) (known .refusal .given .0 .0) (sym (known .refusal .given .1) ∙ call .unpack-whole .ensures .0) in
+    simp (f .0) (ap Refused (f .1), refl)
 
 pub unpack-spec : {M : Type 1} → statement M
 unpack-spec =
     tie.close
     (tie.spec
-    fits-requires
-    returns
-    enum-told
-    unpack-run-requires
-    enum-told-2
-    unpack-page-requires
-    enum-told-3
-    ussd-kept-requires
-    unpack-run-requires-2
-    enum-told-4
-    unpack-page-requires-2
+    slice-aggregate-unpack-whole
+    unpack-whole-requires
+    enum-known-n
+    store-requires
+    enum-known-refusal
     same-length
-    returns-2
-    same-length-2
-    returns-3
-    same-length-3
-    returns-4
-    same-length-4
-    returns-5)
+    returns
+    returns-2)

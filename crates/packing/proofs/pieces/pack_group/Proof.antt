@@ -1,27 +1,15 @@
--- The octets of the number joined are the septets, and squeezed it is their number in base 128.
-use Prim.Native.Nat.{ℕ, _+_, _<_}
-use mathlib.Core.Path.{_≡_, sym, ap, _∙_, subst}
-use mathlib.Core.List.{List, _++_}
-use native.Mathlib.Omega.{arith}
-use lib.ListN.{getD, take, drop}
-use Rattle.words.proofs.Below.{below-take, below-drop}
-use Rattle.stream.specs.Inner.{value, digits}
+-- The number of the eight septets is stored as seven octets.
+use Prim.Native.Nat.{ℕ, _+_}
+use mathlib.Core.Path.{ap, _∙_}
+use mathlib.Core.List.{_++_}
+use lib.ListN.{take, drop}
+use Rattle.stream.specs.Inner.{digits}
 use borrow.Author.Needs.{needs}
-use Rattle.packing.proofs.Folds.{octets-of}
 use Rattle.packing.proofs.pieces.pack_group.Statement.{statement}
 use Rattle.packing.proofs.pieces.pack_group.Tie as tie
 
-join-requires : tie.Need-join-requires
-join-requires c κs = let start = c .before .before in (λ k. omega (arith, start .pre .0 k), (start .pre .1 .0, omega arith, omega arith))
-
--- the octets of the number are the septets
-apart : (c : tie.After-join) → digits 256 8 (c .join .result) ≡ take 8 (drop (c .before .before .before .args .from) (c .before .before .before .args .septets .now))
-apart c = let start = c .before .before .before in octets-of (start .args .septets .now) (start .args .from) (start .pre .0) (start .pre .1 .0) (c .join .ensures)
-
-squeeze-requires : tie.Need-squeeze-requires
-squeeze-requires c κs =
-    let start = c .before .before .before in
-    λ k. subst (λ (t : List ℕ). getD t k 0 < 128) (sym (apart c)) (below-take 128 (drop (start .args .from) (start .args .septets .now)) (below-drop 128 (start .args .septets .now) (start .pre .0) (start .args .from)) 8 k)
+low-eight-requires : tie.Need-low-eight-requires
+low-eight-requires c κs = search needs
 
 spread-requires : tie.Need-spread-requires
 spread-requires c κs = search needs
@@ -32,11 +20,9 @@ same-length c = search needs
 returns : tie.Need-returns
 returns c =
     let spread = c .before .before in
-    let squeeze = spread .before .before in
-    let a = squeeze .before .before .before .before .args in
-    spread .spread .ensures
-    ∙ ap (λ (v : ℕ). take (a .to) (a .out .now) ++ digits 256 7 v ++ drop (a .to + 7) (a .out .now)) (squeeze .squeeze .ensures ∙ ap (value 128) (apart (squeeze .before)))
+    let low = spread .before .before in
+    let a = low .before .before .before .args in
+    spread .spread .ensures ∙ ap (λ (v : ℕ). take (a .to) (a .out .now) ++ digits 256 7 v ++ drop (a .to + 7) (a .out .now)) (low .low-eight .ensures)
 
 pub pack-group-spec : {M : Type 1} → statement M
-pack-group-spec =
-    tie.close (tie.spec join-requires squeeze-requires spread-requires same-length returns)
+pack-group-spec = tie.close (tie.spec low-eight-requires spread-requires same-length returns)

@@ -1,21 +1,23 @@
 -- The groups passed are laid over the front of out, and each turn stores the next group right after them.
-use Prim.Native.Nat.{ℕ, _≤_, _+_, _-_, _*_, _^_}
+use Prim.Native.Nat.{ℕ, _≤_, _+_, _-_, _*_, _%_, _^_}
 use mathlib.Core.Path.{_≡_, ap, _∙_}
 use mathlib.Core.List.{List, _++_}
 use native.Mathlib.Omega.{arith}
 use native.Mathlib.Nat.{mul-zero}
-use lib.ListN.{length, take, drop}
+use lib.ListN.{length, take, drop, length-map}
 use Rattle.words.specs.Lists.{laid}
 use Rattle.words.proofs.Laid.{laid-then}
 use Rattle.stream.specs.Inner.{value, digits}
+use Rattle.packing.specs.Inner.{lowOf}
 use Rattle.stream.proofs.Numbers.{digits-length, group-within, recut-group}
 use borrow.Author.Needs.{needs}
+use Rattle.packing.proofs.LowBits.{low-below}
 use Rattle.packing.proofs.pieces.recut.Statement.{statement}
 use Rattle.packing.proofs.pieces.recut.Tie as tie
 
 abbrev Inv-loop : tie.InvT-loop
 Inv-loop pieces w groups out₀ u g₀ out g =
-    (g ≤ groups) × (out ≡ laid (digits (2 ^ u) (w * g) (value (2 ^ w) (take (u * g) pieces))) out₀) × (length out ≡ length out₀)
+    (g ≤ groups) × (out ≡ laid (digits (2 ^ u) (w * g) (value (2 ^ w) (take (u * g) (lowOf w pieces)))) out₀) × (length out ≡ length out₀)
 
 abbrev μ-loop : tie.MeasureT-loop
 μ-loop pieces w groups out₀ u g₀ out g = groups - g
@@ -60,9 +62,9 @@ loop-again c =
     let in-loop = call .before .before in
     let at = in-loop .before in
     let start = at .before .before .before in
-    let s : List ℕ = start .args .pieces .now in
     let d : List ℕ = start .args .out .now in
     let w : ℕ = start .args .w in
+    let s : List ℕ = lowOf w (start .args .pieces .now) in
     let u : ℕ = start .args .u in
     let g : ℕ = at .loop .g in
     let done : List ℕ = digits (2 ^ u) (w * g) (value (2 ^ w) (take (u * g) s)) in
@@ -72,7 +74,7 @@ loop-again c =
     ∙ ap (λ (o : List ℕ). take (w * g) o ++ next ++ drop (w * g + w) o) (at .loop .inv .1)
     ∙ laid-then done next d (w * g) w (digits-length (2 ^ u) (w * g) (value (2 ^ w) (take (u * g) s))) (digits-length (2 ^ u) w (value (2 ^ w) (take u (drop (u * g) s)))) in (
       search needs,
-      stored ∙ ap (λ (o : List ℕ). laid o d) (recut-group w u g s (start .pre .0) (omega (arith, within in-loop))),
+      stored ∙ ap (λ (o : List ℕ). laid o d) (recut-group w u g s (low-below w (start .args .pieces .now)) (omega (arith, within in-loop, length-map (start .args .pieces .now) (λ (x : ℕ). x % 2 ^ w)))),
       search needs,
     )
 
@@ -84,7 +86,7 @@ returns c =
     let at = c .before in
     let a = at .before .before .before .args in
     let done : at .loop .g ≡ a .groups = search needs in
-    at .loop .inv .1 ∙ ap (λ (g : ℕ). laid (digits (2 ^ (a .u)) (a .w * g) (value (2 ^ (a .w)) (take (a .u * g) (a .pieces .now)))) (a .out .now)) done
+    at .loop .inv .1 ∙ ap (λ (g : ℕ). laid (digits (2 ^ (a .u)) (a .w * g) (value (2 ^ (a .w)) (take (a .u * g) (lowOf (a .w) (a .pieces .now))))) (a .out .now)) done
 
 pub recut-spec : {M : Type 1} → statement M
 recut-spec =

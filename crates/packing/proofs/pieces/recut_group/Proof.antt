@@ -5,24 +5,20 @@ use mathlib.Core.List.{List, _++_}
 use native.Mathlib.Omega.{arith}
 use lib.ListN.{getD, take, drop}
 use Rattle.stream.specs.Inner.{value, digits}
+use Rattle.packing.specs.Inner.{lowOf}
 use borrow.Author.Needs.{needs}
 use Rattle.packing.proofs.pieces.recut_group.Statement.{statement}
 use Rattle.packing.proofs.pieces.recut_group.Tie as tie
 
 -- the group at widths that are known
 abbrev group : List ℕ → ℕ → List ℕ → ℕ → ℕ → ℕ → List ℕ
-group s from out to w u = take to out ++ digits (2 ^ u) w (value (2 ^ w) (take u (drop from s))) ++ drop (to + w) out
+group s from out to w u = take to out ++ digits (2 ^ u) w (value (2 ^ w) (take u (drop from (lowOf w s)))) ++ drop (to + w) out
 
 pack-group-requires : tie.Need-pack-group-requires
-pack-group-requires c κs =
-    let start = c .before .before .before .before in
-    (λ k. subst (λ (w : ℕ). getD (start .args .pieces .now) k 0 < 2 ^ w) (c .before .if1 .taken) (start .pre .0 k), omega arith)
+pack-group-requires c κs = omega arith
 
 unpack-group-requires : tie.Need-unpack-group-requires
-unpack-group-requires c κs =
-    let start = c .before .before .before .before in
-    let wide : start .args .w ≡ 8 = omega arith in
-    (λ k. subst (λ (w : ℕ). getD (start .args .pieces .now) k 0 < 2 ^ w) wide (start .pre .0 k), omega arith)
+unpack-group-requires c κs = omega arith
 
 same-length : tie.Need-same-length
 same-length c = search needs

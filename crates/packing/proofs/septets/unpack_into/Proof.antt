@@ -1,8 +1,10 @@
 -- Whole groups and what is left over make up the number that the octets write, so that its septets follow each other.
-use Prim.Native.Nat.{ℕ, _+_, _*_, _/_, _%_}
-use mathlib.Core.Path.{_≡_, sym, ap, ap₂, _∙_}
-use mathlib.Core.List.{List, _++_}
+use Prim.Native.Nat.{ℕ, _+_, _*_, _/_, _%_, _≤_, _<_, _^_}
+use mathlib.Core.Path.{_≡_, sym, ap, ap₂, _∙_, subst}
+use mathlib.Core.List.{List, [], _++_, append-nil}
 use native.Mathlib.Omega.{arith}
+use native.Mathlib.Nat.{lt-of-lt-of-le}
+use lib.Pow.{pow-mono}
 use lib.ListN.{length, take, drop, length-drop, take-append-drop}
 use lib.Seq.{take-all, length-take-le}
 use Rattle.words.specs.Lists.{laid}
@@ -10,8 +12,12 @@ use Rattle.words.proofs.Laid.{laid-then}
 use Rattle.words.proofs.Below.{Below, below-take}
 use Rattle.stream.specs.Stream.{octetsFor, unpacked}
 use Rattle.stream.specs.Inner.{value, digits}
-use Rattle.stream.proofs.Numbers.{digits-length, recut-append}
+use Rattle.stream.proofs.Numbers.{pow-mul, digits-length, recut-append}
 use Rattle.stream.proofs.Stream.{unpacked-digits}
+use Rattle.packing.specs.Inner.{lowOf}
+use Rattle.packing.proofs.Folds.{octets-fit, septets-apart}
+use Rattle.packing.proofs.Ends.{digits-front}
+use Rattle.packing.proofs.LowBits.{low-same}
 use borrow.Author.Needs.{needs}
 use Rattle.packing.proofs.septets.unpack_into.Statement.{statement}
 use Rattle.packing.proofs.septets.unpack_into.Tie as tie
@@ -30,31 +36,57 @@ unpacked-parts o h n e =
     ∙ ap₂ (λ (k : ℕ) (t : List ℕ). digits 128 k (value 256 t)) parts (take-append-drop (7 * g) o)
     ∙ sym (unpacked-digits n o h)
 
+-- the first octets of septets that lie apart are the septets
+first-apart : (v k : ℕ) → k ≤ 8 → digits 256 k (value 256 (digits 128 8 v)) ≡ digits 128 k v
+first-apart v k h = sym (digits-front 256 8 k (value 256 (digits 128 8 v)) h) ∙ ap (take k) (septets-apart v) ∙ digits-front 128 8 k v h
+
+below : (c : tie.After-shared-slice-known) → Below 256 (c .before .args .octets .now)
+below c k = c .shared-slice-known .given k .fits
+
 recut-requires : tie.Need-recut-requires
 unfolding octetsFor
-recut-requires c κs = (λ k. c .before .before .shared-slice-known .given k .fits, (omega arith, omega arith, search needs, omega arith, search needs))
+recut-requires c κs = omega arith
 
-mul-join : tie.Need-mul-join
-mul-join c = search needs
+-- whole groups are stored
+groups : (c : tie.After-recut) → let a = c .before .before .before .before .args in
+    c .recut .last .1 .1 .1 .0 ≡ laid (digits 128 (8 * (a .n / 8)) (value 256 (take (7 * (a .n / 8)) (a .octets .now)))) (a .out .now)
+groups c =
+    let known = c .before .before .before in
+    let a = known .before .args in
+    c .recut .ensures ∙ ap (λ (o : List ℕ). laid (digits 128 (8 * (a .n / 8)) (value 256 (take (7 * (a .n / 8)) o))) (a .out .now)) (low-same 8 (a .octets .now) (below known))
 
-join-requires : tie.Need-join-requires
+mul-take-end : tie.Need-mul-take-end
+mul-take-end c = search needs
+
+take-end-requires : tie.Need-take-end-requires
 unfolding octetsFor
-join-requires c κs = (λ k. c .before .before .before .before .before .shared-slice-known .given k .fits, (omega arith, omega arith, search needs))
+take-end-requires c κs = omega arith
 
-mul-spread : tie.Need-mul-spread
-mul-spread c = search needs
+stretch-requires : tie.Need-stretch-requires
+unfolding octetsFor
+stretch-requires c κs =
+    let known = c .before .before .before .before .before .before .before in
+    let a = known .before .args in
+    let r : ℕ = a .n % 8 in
+    let fits : value 256 (take r (drop (7 * (a .n / 8)) (a .octets .now))) < 2 ^ (8 * r) =
+    rw (pow-mul 2 8 r) (octets-fit (a .octets .now) (7 * (a .n / 8)) r (below known) (omega arith)) in
+    subst (λ (v : ℕ). v < 2 ^ 56) (sym (c .take-end .ensures)) (lt-of-lt-of-le fits (pow-mono {j = 56} (omega arith)))
 
-spread-requires : tie.Need-spread-requires
-spread-requires c κs = search needs
+mul-put-end : tie.Need-mul-put-end
+mul-put-end c = search needs
+
+put-end-requires : tie.Need-put-end-requires
+put-end-requires c κs = search needs
 
 same-length : tie.Need-same-length
 same-length c = search needs
 
 returns : tie.Need-returns
 returns c =
-    let spread = c .before .before in
-    let join = spread .before .before in
-    let recut = join .before .before .before in
+    let put = c .before .before in
+    let stretch = put .before .before in
+    let end = stretch .before in
+    let recut = end .before .before .before .before in
     let known = recut .before .before .before in
     let a = known .before .args in
     let o : List ℕ = a .octets .now in
@@ -63,12 +95,42 @@ returns c =
     let r : ℕ = n % 8 in
     let done : List ℕ = digits 128 (8 * g) (value 256 (take (7 * g) o)) in
     let rest : List ℕ = digits 128 r (value 256 (take r (drop (7 * g) o))) in
-    spread .spread .ensures
-    ∙ ap₂ (λ (l : List ℕ) (v : ℕ). take (8 * g) l ++ digits 128 r v ++ drop (8 * g + r) l) (recut .recut .ensures) (join .join .ensures)
+    put .put-end .ensures
+    ∙ ap₂ (λ (l s : List ℕ). take (8 * g) l ++ s ++ drop (8 * g + r) l) (groups recut)
+    (ap (digits 256 r) (stretch .stretch .ensures) ∙ first-apart (end .take-end .result) r (omega arith) ∙ ap (digits 128 r) (end .take-end .ensures))
     ∙ laid-then done rest (a .out .now) (8 * g) r (digits-length 128 (8 * g) (value 256 (take (7 * g) o))) (digits-length 128 r (value 256 (take r (drop (7 * g) o))))
-    ∙ ap (λ (l : List ℕ). laid l (a .out .now)) (unpacked-parts o (λ k. known .shared-slice-known .given k .fits) n (known .before .pre .0))
+    ∙ ap (λ (l : List ℕ). laid l (a .out .now)) (unpacked-parts o (below known) n (known .before .pre .0))
+
+same-length-2 : tie.Need-same-length-2
+same-length-2 c = search needs
+
+returns-2 : tie.Need-returns-2
+unfolding digits
+returns-2 c =
+    let recut = c .before .before .before in
+    let known = recut .before .before .before in
+    let a = known .before .args in
+    let o : List ℕ = a .octets .now in
+    let g : ℕ = a .n / 8 in
+    let done : List ℕ = digits 128 (8 * g) (value 256 (take (7 * g) o)) in
+    let none : 0 ≡ a .n % 8 = omega arith in
+    groups recut
+    ∙ ap (λ (l : List ℕ). laid l (a .out .now))
+    (sym (append-nil done)
+    ∙ ap (λ (r : ℕ). done ++ digits 128 r (value 256 (take r (drop (7 * g) o)))) none
+    ∙ unpacked-parts o (below known) (a .n) (known .before .pre .0))
 
 pub unpack-into-spec : {M : Type 1} → statement M
 unpack-into-spec =
     tie.close
-    (tie.spec recut-requires mul-join join-requires mul-spread spread-requires same-length returns)
+    (tie.spec
+    recut-requires
+    mul-take-end
+    take-end-requires
+    stretch-requires
+    mul-put-end
+    put-end-requires
+    same-length
+    returns
+    same-length-2
+    returns-2)
