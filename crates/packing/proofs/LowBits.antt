@@ -2,13 +2,13 @@
 -- Assumes nothing.
 use mathlib.Core.Path.{_≡_, refl, sym, ap, ap₂, _∙_}
 use mathlib.Core.List.{List, [], _∷_}
-use Prim.Native.Nat.{ℕ, zero, suc, _+_, _*_, _%_, _^_, _≤_, _<_}
+use Prim.Native.Nat.{ℕ, zero, suc, _+_, _*_, _%_, _^_, _≤_}
 use native.Mathlib.Nat.{mod-lt, mod-eq-of-lt}
 use native.Mathlib.Omega.{arith}
 use lib.Dec.{lit<}
 use lib.Bits.{bitAnd}
 use lib.Pow.{pow-pos}
-use lib.ListN.{length, getD, take, drop, replicate, length-map, length-drop}
+use lib.ListN.{length, take, drop, replicate, length-map, length-drop}
 use lib.Seq.{length-take-le}
 use Rattle.words.proofs.Below.{Below, below-take, below-drop}
 use Rattle.stream.specs.Inner.{value, digits}

@@ -2,7 +2,7 @@
 -- Assumes nothing.
 use mathlib.Core.Path.{_≡_, refl}
 use mathlib.Core.Bool.{Bool, true, false, cond}
-use mathlib.Core.List.{List, [], _∷_, _++_}
+use mathlib.Core.List.{List}
 use Prim.Native.Nat.{ℕ, _≤_}
 use native.Mathlib.Omega.{arith}
 use lib.Dec.{ltb, leb}
@@ -10,24 +10,23 @@ use lib.ListN.{length}
 use borrow.Author.Tests.{ltb-false}
 use Rattle.words.specs.declared.Service.{Service}
 use Rattle.words.specs.declared.Service.the-variants.{ShortMessage, Broadcast, Ussd, OldPage}
-use Rattle.words.specs.declared.Refusal.the-variants.{Unwritable, NoSeptet, TooLong, NoRoom, Unlisted}
+use Rattle.words.specs.declared.Refusal.the-variants.{Unwritable, NoSeptet, TooLong, Unlisted}
 use Rattle.words.specs.Sizes.{mostSeptets, mostUnits, isOldPage}
 use Rattle.words.specs.Lists.{firstPlace}
-use Rattle.words.specs.Judging.{when, Verdict, refused, accepted, verdict, settle}
+use Rattle.words.specs.Judging.{Verdict, refused, accepted, verdict, settle}
 use Rattle.words.proofs.Judging.{accepted-rule, accepted-parts}
 use Rattle.coding.specs.declared.Reading.{Reading}
 use Rattle.coding.specs.Holding.{isUcs2, textRules}
-use Rattle.coding.specs.OctetWritten.{smallest, writeRules as codingRules}
+use Rattle.coding.specs.OctetWritten.{writeRules as codingRules}
 use Rattle.alphabet.specs.Writing.{septetsOf, firstUnlisted}
 use Rattle.stream.proofs.UnitOctets.{unit-octets-length}
 use Rattle.packing.specs.declared.Packed.the-variants as packed
 use Rattle.packing.specs.Answers.{packedCount}
-use Rattle.packing.specs.SeptetCalls.{octetsOf, countOf, packRules, packAnswers}
+use Rattle.packing.specs.SeptetCalls.{countOf, packRules, packAnswers}
 use Rattle.packing.specs.UnitCalls.{unitCountOf}
 use Rattle.message.specs.declared.MessageWritten.the-variants as written
-use Rattle.message.specs.MessageWritten.{textSizeRules, notCodable, overSize, messageOctets, messageCount, sizeRules, writeRules, writeAnswers}
+use Rattle.message.specs.MessageWritten.{textSizeRules, notCodable, overSize, sizeRules, writeRules, writeAnswers}
 use Rattle.message.specs.Reports.{writeCount}
-use Rattle.wikuay.specs.declared.Answer.{Answer}
 use Rattle.wikuay.specs.declared.ReadingNumbers.{ReadingNumbers}
 use Rattle.wikuay.specs.declared.names.NamedService.{NamedService}
 use Rattle.wikuay.specs.declared.names.NamedService.the-variants as service

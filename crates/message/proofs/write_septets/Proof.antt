@@ -10,7 +10,7 @@ use Rattle.words.specs.Sizes.{mostSeptets}
 use Rattle.message.specs.Inner.{septetsAs}
 use Prim.Native.Nat.{ℕ, _<_, _≤_}
 use denote.Ref.{now}
-use mathlib.Core.Path.{refl, ap, sym, subst, _∙_}
+use mathlib.Core.Path.{ap, subst, _∙_}
 use borrow.Author.Needs.{needs}
 use Rattle.message.proofs.write_septets.Statement.{statement}
 use Rattle.message.proofs.write_septets.Tie as tie

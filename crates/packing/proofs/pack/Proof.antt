@@ -7,7 +7,6 @@ use native.Mathlib.Omega.{arith}
 use borrow.Author.Tests.{lt-ltb, le-ltb}
 use lib.Dec.{leb}
 use lib.ListN.{length}
-use Rattle.words.specs.declared.Filled.{Filled}
 use Rattle.words.specs.declared.Refusal.the-variants.{NoSeptet}
 use Rattle.words.specs.Sizes.{mostSeptets, isOldPage}
 use Rattle.words.specs.Lists.{firstPlace}
@@ -15,8 +14,8 @@ use Rattle.words.specs.Judging.{verdict}
 use Rattle.words.proofs.Below.{Below}
 use Rattle.stream.specs.Stream.{packed}
 use Rattle.packing.specs.declared.Packed.the-variants.{Refused}
-use Rattle.packing.specs.SeptetCalls.{octetsOf, countOf, packRules, packAnswers, packLeaves}
-use Rattle.packing.specs.Inner.{countedAs, withCrs, sentSeptets}
+use Rattle.packing.specs.SeptetCalls.{octetsOf, packRules, packAnswers, packLeaves}
+use Rattle.packing.specs.Inner.{countedAs, withCrs}
 use Rattle.packing.proofs.Given.{Gives}
 use Rattle.packing.proofs.Calls.{none-high, pack-passed}
 use Rattle.packing.proofs.Arrays.{sent-most, sent-crs, sent-octets}

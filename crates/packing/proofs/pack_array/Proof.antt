@@ -9,7 +9,7 @@ use Rattle.words.specs.declared.Filled.the-variants.{Done}
 use Rattle.words.specs.Lists.{laid}
 use Rattle.words.specs.Judging.{verdict}
 use Rattle.words.proofs.Laid.{laid-then}
-use Rattle.stream.specs.Stream.{octetsFor, packed}
+use Rattle.stream.specs.Stream.{octetsFor}
 use Rattle.stream.specs.Inner.{value, digits}
 use Rattle.stream.proofs.Numbers.{digits-length}
 use Rattle.packing.specs.ArrayCalls.{lowBits, arrayRules, arrayAnswers, arrayLeaves}

@@ -1,11 +1,10 @@
 -- All septets are unpacked into an array, which has room for them, so that only rule 4 can refuse there; what is kept of them is stored from its front.
-use Prim.Native.Nat.{ℕ, _≤_}
+use Prim.Native.Nat.{ℕ}
 use mathlib.Core.Path.{_≡_, refl, sym, ap, _∙_, subst}
-use mathlib.Core.Bool.{true, false}
+use mathlib.Core.Bool.{true}
 use mathlib.Core.List.{List}
 use native.Mathlib.Omega.{arith}
 use lib.ListN.{length, take}
-use Rattle.words.specs.declared.Refusal.{Refusal}
 use Rattle.words.specs.declared.Filled.the-variants.{Refused}
 use Rattle.words.specs.Judging.{verdict}
 use Rattle.packing.specs.SeptetCalls.{septetsFit, septetsOf, unpackRules, unpackAnswers, unpackLeaves}

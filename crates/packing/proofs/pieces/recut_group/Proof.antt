@@ -1,9 +1,9 @@
 -- The widths are seven and eight, one way or the other.
-use Prim.Native.Nat.{ℕ, _+_, _<_, _^_}
-use mathlib.Core.Path.{_≡_, sym, ap₂, _∙_, subst}
+use Prim.Native.Nat.{ℕ, _+_, _^_}
+use mathlib.Core.Path.{_≡_, sym, ap₂, _∙_}
 use mathlib.Core.List.{List, _++_}
 use native.Mathlib.Omega.{arith}
-use lib.ListN.{getD, take, drop}
+use lib.ListN.{take, drop}
 use Rattle.stream.specs.Inner.{value, digits}
 use Rattle.packing.specs.Inner.{lowOf}
 use borrow.Author.Needs.{needs}

@@ -1,7 +1,7 @@
 -- Each step leaves a number that fits, and the three together move the septets apart.
 use Prim.Native.Nat.{_/_, _^_}
 use native.Mathlib.Omega.{arith}
-use lib.Bits.{and-le-l, and-le-r}
+use lib.Bits.{and-le-r}
 use borrow.Author.Needs.{needs}
 use Rattle.packing.proofs.Folds.{foursApart, pairsApart, stretch-digits}
 use Rattle.packing.proofs.pieces.stretch.Statement.{statement}

@@ -7,7 +7,6 @@ use lib.Bits.{bitAnd}
 use lib.ListN.{take, drop}
 use Rattle.words.proofs.Below.{Below}
 use Rattle.stream.specs.Inner.{value, digits}
-use Rattle.packing.specs.Inner.{lowOf}
 use borrow.Author.Needs.{needs}
 use Rattle.packing.proofs.Folds.{octets-fit, seven-octets, septets-apart}
 use Rattle.packing.proofs.LowBits.{low-same}

@@ -1,10 +1,9 @@
 -- By the service that is told: a page has 93 septets, and under USSD the CR is one more where it is added.
 use Prim.Native.Nat.{ℕ, _≤_}
-use mathlib.Core.Path.{_≡_, sym, ap, _∙_, subst}
+use mathlib.Core.Path.{sym, ap, _∙_, subst}
 use mathlib.Core.List.{List, [], _∷_}
 use lib.ListN.{length, length-append}
 use Rattle.words.specs.declared.Service.{Service}
-use Rattle.words.specs.declared.Service.the-variants.{Broadcast}
 use Rattle.words.specs.Sizes.{mostSeptets}
 use Rattle.stream.proofs.Pages.{page-length}
 use Rattle.stream.proofs.Ussd.{closed-added, closed-same}

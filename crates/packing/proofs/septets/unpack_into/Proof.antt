@@ -1,7 +1,7 @@
 -- Whole groups and what is left over make up the number that the octets write, so that its septets follow each other.
 use Prim.Native.Nat.{ℕ, _+_, _*_, _/_, _%_, _≤_, _<_, _^_}
 use mathlib.Core.Path.{_≡_, sym, ap, ap₂, _∙_, subst}
-use mathlib.Core.List.{List, [], _++_, append-nil}
+use mathlib.Core.List.{List, _++_, append-nil}
 use native.Mathlib.Omega.{arith}
 use native.Mathlib.Nat.{lt-of-lt-of-le}
 use lib.Pow.{pow-mono}
@@ -14,7 +14,6 @@ use Rattle.stream.specs.Stream.{octetsFor, unpacked}
 use Rattle.stream.specs.Inner.{value, digits}
 use Rattle.stream.proofs.Numbers.{pow-mul, digits-length, recut-append}
 use Rattle.stream.proofs.Stream.{unpacked-digits}
-use Rattle.packing.specs.Inner.{lowOf}
 use Rattle.packing.proofs.Folds.{octets-fit, septets-apart}
 use Rattle.packing.proofs.Ends.{digits-front}
 use Rattle.packing.proofs.LowBits.{low-same}

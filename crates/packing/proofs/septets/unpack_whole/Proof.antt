@@ -12,9 +12,9 @@ use Rattle.words.specs.Lists.{laid}
 use Rattle.words.specs.Judging.{verdict}
 use Rattle.stream.specs.Stream.{octetsFor, unpacked}
 use Rattle.stream.proofs.Stream.{unpacked-length}
-use Rattle.packing.specs.SeptetCalls.{septetsFit, septetsOf}
+use Rattle.packing.specs.SeptetCalls.{septetsFit}
 use Rattle.packing.specs.ArrayCalls.{allSeptets, allRules, allAnswers, allLeaves}
-use Rattle.packing.specs.Inner.{heldCount, keptCount}
+use Rattle.packing.specs.Inner.{keptCount}
 use Rattle.packing.proofs.Calls.{fit-held}
 use Rattle.packing.proofs.Arrays.{kept-count, held-septets}
 use borrow.Author.Needs.{needs}
