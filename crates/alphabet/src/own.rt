@@ -78,14 +78,14 @@ fn odd_eight_units(text: &[u16], n: usize) -> u16
     odd_units(text, n, n + 8)
 }
 
-// How many units at the front of a text are their own codes: all of them, or as many eights as were found to be. None of a text that is
-// shorter than eight, which costs no more unit by unit. Sixteen at a time, and the end eight at a time, the last eight over again where they
+// How many units at the front of a text are their own codes: all of them, or as many eights as were found to be. None of a text of
+// eight or fewer, which costs no more unit by unit. Sixteen at a time, and the end eight at a time, the last eight over again where they
 // overlap: a loop over fewer would not vectorise.
 pub(crate) fn own_front(text: &[u16]) -> usize
     ensures { λ r. ⌜ (r ≤ length (now (text .entry))) × OwnFrom (now (text .entry)) 0 r ⌝ }
 {
     let len = text.len();
-    if len < 8 {
+    if len < 9 {
         return 0;
     }
     let mut n: usize = 0;
