@@ -4,26 +4,12 @@ ghost use mathlib.Core.Bool.{cond};
 ghost use Prim.Native.Nat.{_≤_, _<_};
 ghost use lib.ListN.{length, take};
 ghost use Rattle.words.specs.Lists.{laid};
-ghost use Rattle.alphabet.specs.Reading.{readAs, firstWide, textAnswers, textLeaves, showAnswers, showLeaves};
+ghost use Rattle.alphabet.specs.Reading.{readAs, textAnswers, textLeaves, showAnswers, showLeaves};
 ghost use Rattle.alphabet.specs.Inner.{OwnFrom, firstRead, Stepped};
 use crate::own;
 use crate::tables;
 use words::Filled;
 use words::Refusal;
-
-// The place of the first septet of 128 or more, or the number of septets where there is none.
-fn first_wide(septets: &[u8]) -> usize
-    ensures answer { λ r. ⌜ r ≡ firstWide (now (septets .entry)) ⌝ }
-{
-    let mut at = 0;
-    while at < septets.len() {
-        if septets[at] >= 128 {
-            return at;
-        }
-        at += 1;
-    }
-    at
-}
 
 // One unit, and the place where reading goes on.
 struct Step {
@@ -140,7 +126,7 @@ pub(crate) fn judge_text(septets: &[u8], old: bool, out: &mut [u16]) -> Filled
     ensures answer { λ r. ⌜ r ≡ textAnswers (now (septets .entry)) (readAs old (now (septets .entry))) (length (now (out .entry))) ⌝ }
     ensures buffer { λ r. ⌜ now (out .exit) ≡ textLeaves (now (septets .entry)) (readAs old (now (septets .entry))) (now (out .entry)) ⌝ }
 {
-    let wide = first_wide(septets);
+    let wide = words::first_wide(septets);
     if wide < septets.len() {
         return Filled::Refused(Refusal::NoSeptet { septet: wide });
     }
