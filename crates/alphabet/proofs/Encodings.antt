@@ -3,21 +3,21 @@
 use mathlib.Core.Path.{_≡_, refl, ap, ap₂, _∙_, sym, subst}
 use mathlib.Core.Bool.{false}
 use mathlib.Core.List.{List, [], _∷_, _++_, append-assoc}
-use Prim.Native.Nat.{ℕ, zero, suc, _+_, _-_, _*_, _<_, _≤_}
+use Prim.Native.Nat.{ℕ, zero, suc, _+_, _*_, _<_, _≤_}
 use native.Mathlib.Numerals.{add-one}
 use native.Mathlib.Omega.{arith}
 use lib.ListN.{length, getD, take, drop, set, length-append, length-take, take-append-drop}
-use lib.Seq.{drop-cons, take-suc, take-all, take-add, take-at, take-append-le, set-at, length-take-le, getD-take, drop-append-add, drop-drop}
+use lib.Seq.{drop-cons, take-suc, take-all, take-add, take-append-le, set-at, length-take-le}
 use Rattle.words.specs.Lists.{laid}
-use Rattle.words.proofs.Laid.{laid-length}
+use Rattle.words.proofs.Laid.{laid-length, laid-over}
 use Rattle.words.proofs.Places.{Passed, passed-none, passed-more, place-most}
 use Rattle.alphabet.specs.declared.Listed.{Listed}
 use Rattle.alphabet.specs.declared.Listed.the-variants.{Main, Extension}
 use Rattle.alphabet.specs.declared.Encoded.{Encoded}
 use Rattle.alphabet.specs.Tables.{escape}
 use Rattle.alphabet.specs.Writing.{listedAs, isUnlisted, septetsFor, septetsOf, firstUnlisted, listedFront, encodedAs, encodedLeaves}
-use Rattle.alphabet.specs.Inner.{Own, OwnFrom}
-use Rattle.alphabet.proofs.OwnCodes.{own-septets}
+use Rattle.alphabet.specs.Inner.{OwnFrom}
+use Rattle.alphabet.proofs.OwnCodes.{own-septets, Begun, begun-long}
 use Rattle.alphabet.proofs.Theorems.{Codable, codable-front, septets-append, septets-last}
 
 -- the buffer with the n elements of a list at its front, as many of them as there is room for
@@ -102,16 +102,11 @@ own-passed t (suc n) h own =
     subst (λ (k : ℕ). Passed (λ unit. isUnlisted (listedAs unit)) t k) (add-one n)
     (listed-more t n (Main (getD t n 0)) (own-passed t n (omega arith) (λ k l. own k (omega arith))) (omega arith) (sym (own n (omega arith) (omega arith) .written)) refl)
 
-own-front-septets : (t : List ℕ) (n : ℕ) → n ≤ length t → OwnFrom t 0 n → septetsOf (take n t) ≡ take n t
-own-front-septets t n h own =
-    own-septets (take n t)
-    (λ k l. let below : k < n = omega (arith, l, length-take-le n t h) in subst Own (sym (getD-take n t k 0 below)) (own k below (omega arith)))
-
 -- so the loop may begin after them, where the buffer holds them
 pub encoding-front : (t out : List ℕ) (n : ℕ) → n ≤ length t → n ≤ length out → OwnFrom t 0 n → take n out ≡ take n t → Encoding t out out n n
 unfolding laid
 encoding-front t out n within room own same =
-    let septets : septetsOf (take n t) ≡ take n t = own-front-septets t n within own in
+    let septets : septetsOf (take n t) ≡ take n t = own-septets t n own in
     let size : length (take n t) ≡ n = length-take-le n t within in
     record {
       within = within;
@@ -137,16 +132,7 @@ pub encoded : {t start out : List ℕ} {n i : ℕ} → Encoding t start out n i 
 unfolding encodedAs encodedLeaves listedFront
 encoded {t} {start} {out} {n} {i} e at = rw at (ap (λ (k : ℕ). record { units = i; septets = k }) (e .fits .count), e .fits .stored)
 
--- what was at the front of the buffer does not matter where the septets go over it
-laid-over : (xs ys start : List ℕ) → length ys ≤ length xs → laid xs (laid ys start) ≡ laid xs start
-unfolding laid
-laid-over xs ys start h =
-    let far : length xs ≡ length ys + (length xs - length ys) = omega arith in
-    ap (λ (k : ℕ). xs ++ drop k (ys ++ drop (length ys) start)) far
-    ∙ ap (λ (s : List ℕ). xs ++ s) (drop-append-add ys (drop (length ys) start) (length xs - length ys) ∙ drop-drop (length xs - length ys) (length ys) start)
-    ∙ ap (λ (k : ℕ). xs ++ drop k start) (sym far)
-
--- and they go over at least the units that are their own codes
+-- the septets go over at least the units that are their own codes
 own-few : (t : List ℕ) (n : ℕ) → n ≤ length t → OwnFrom t 0 n → n ≤ length (septetsOf (take (firstUnlisted t) t))
 own-few t n h own =
     let left : List ℕ = take (firstUnlisted (drop n t)) (drop n t) in
@@ -154,34 +140,18 @@ own-few t n h own =
     ap (λ (k : ℕ). septetsOf (take k t)) (own-passed t n h own)
     ∙ ap septetsOf (take-add n (firstUnlisted (drop n t)) t)
     ∙ septets-append (take n t) left
-    ∙ ap (λ (s : List ℕ). s ++ septetsOf left) (own-front-septets t n h own) in
+    ∙ ap (λ (s : List ℕ). s ++ septetsOf left) (own-septets t n own) in
     omega (arith, ap length parts, length-append (take n t) (septetsOf left), length-take-le n t h)
 
--- before the loop: the first n units are their own codes, and were laid over the front of the buffer
-pub record Begun (text start out : List ℕ) (n : ℕ) : Type 0 where
-  pub within : n ≤ length text
-  pub room : n ≤ length start
-  pub own : OwnFrom text 0 n
-  pub held : out ≡ laid (take n text) start
-
+-- they were laid over the front of the buffer before the loop
 module _ {t start front : List ℕ} {n : ℕ} (b : Begun t start front n) where
-  pub begun-long : length front ≡ length start
-  begun-long = ap length (b .held) ∙ laid-length (take n t) start (omega (arith, length-take-le n t (b .within), b .room))
-
-  pub begun-takes : ((n ≤ length t) × (n ≤ length front) × OwnFrom t 0 n) × (take n front ≡ take n t)
-  unfolding laid
-  begun-takes = (
-    (b .within, omega (arith, begun-long, b .room), b .own),
-    ap (take n) (b .held) ∙ take-at (take n t) (drop (length (take n t)) start) n (length-take-le n t (b .within)),
-  )
-
   pub encodes-over : {answer : Encoded} {out : List ℕ} → Encodes t front answer out → Encodes t start answer out
   unfolding encodedLeaves listedFront
   encodes-over f =
       let septets : List ℕ = septetsOf (take (firstUnlisted t) t) in
       let few : length (take n t) ≤ length (take (length start) septets) =
       omega (arith, length-take (length start) septets, own-few t n (b .within) (b .own), length-take-le n t (b .within), b .room) in
-      (f .0, f .1 ∙ ap₂ (λ (k : ℕ) (s : List ℕ). laid (take k septets) s) begun-long (b .held) ∙ laid-over (take (length start) septets) (take n t) start few)
+      (f .0, f .1 ∙ ap₂ (λ (k : ℕ) (s : List ℕ). laid (take k septets) s) (begun-long b) (b .held) ∙ laid-over (take (length start) septets) (take n t) start few)
 
 -- what the answer tells of the text
 module _ (t : List ℕ) {answer : Encoded} (e : answer ≡ encodedAs t) where

@@ -2,25 +2,27 @@
 -- Assumes nothing.
 use mathlib.Core.Path.{_≡_, refl, ap, ap₂, _∙_, sym}
 use mathlib.Core.Bool.{Bool, true, false, cond, not}
-use mathlib.Core.List.{List, [], _∷_, map}
-use Prim.Native.Nat.{ℕ, suc, _+_, _-_, _<_, _≤_}
+use mathlib.Core.List.{List, [], _∷_, _++_, map, append-nil}
+use Prim.Native.Nat.{ℕ, zero, suc, _+_, _-_, _<_, _≤_}
 use native.Mathlib.Omega.{arith}
 use lib.Bits.{bitOr, or-add-and, and-le-l, and-le-r}
 use lib.Dec.{T, eqb, ltb, eqb→eq}
-use lib.ListN.{getD}
+use lib.ListN.{length, getD, take, drop, length-append}
+use lib.Seq.{length-take-le, take-at}
 use native.Mathlib.Decide.{decLe}
 use borrow.Author.Count.{below-more}
 use borrow.Author.Tests.{le-ltb}
-use Rattle.words.specs.Lists.{firstPlace}
+use Rattle.words.specs.Lists.{firstPlace, laid}
+use Rattle.words.proofs.Laid.{Laying, laid-length, laid-over}
 use Rattle.words.proofs.Tests.{both, both-left, both-right, everyBelow, every-below}
 use Rattle.alphabet.specs.declared.Listed.the-variants.{Main}
 use Rattle.alphabet.specs.Tables.{escape, mainTable, extension, among, beside}
 use Rattle.alphabet.specs.Writing.{listedAs, septetsOf}
 use Rattle.alphabet.specs.Reading.{mainUnit, oldUnit, textOf, readAs}
-use Rattle.alphabet.specs.Inner.{Own, OwnFrom, AllOwn}
+use Rattle.alphabet.specs.Inner.{Own, OwnFrom}
 use Rattle.alphabet.proofs.Entries.{same, same-is}
 use Rattle.alphabet.proofs.Rows.{differ}
-use Rattle.alphabet.proofs.Septets.{text-plain}
+use Rattle.alphabet.proofs.Septets.{text-plain, read-over}
 
 -- bits that are none together are none each
 or-none : (a b : ℕ) → bitOr a b ≡ 0 → (a ≡ 0) × (b ≡ 0)
@@ -88,24 +90,68 @@ pub own-join : (s : List ℕ) (a b : ℕ) → OwnFrom s 0 a → OwnFrom s a b �
 own-join s a b front rest k l m = elim (decLe a k) [ yes h ↦ rest k l h | no h ↦ front k (omega (arith, h)) m ]
 
 -- a text of such units is its own septets
-pub own-septets : (t : List ℕ) → AllOwn t → septetsOf t ≡ t
+pub own-septets : (t : List ℕ) (n : ℕ) → OwnFrom t 0 n → septetsOf (take n t) ≡ take n t
 unfolding septetsOf
-own-septets [] h = refl
-own-septets (u ∷ t) h = rw (h 0 (omega arith) .written) (ap (λ (s : List ℕ). u ∷ s) (own-septets t (λ k l. h (suc k) (omega arith))))
+own-septets t zero h = refl
+own-septets [] (suc n) h = refl
+own-septets (u ∷ t) (suc n) h = rw (h 0 (omega arith) (omega arith) .written) (ap (λ (s : List ℕ). u ∷ s) (own-septets t n (λ k l m. h (suc k) (omega arith) (omega arith))))
 
--- and such septets are their own text
-own-text : (s : List ℕ) → AllOwn s → textOf s ≡ s
+-- and such septets are their own text, before the text of what comes after them
+own-text : (s : List ℕ) (n : ℕ) → OwnFrom s 0 n → textOf s ≡ take n s ++ textOf (drop n s)
 unfolding textOf
-own-text [] h = refl
-own-text (x ∷ s) h =
-    text-plain x s (h 0 (omega arith) .other)
-    ∙ ap₂ (λ (u : ℕ) (t : List ℕ). u ∷ t) (h 0 (omega arith) .read) (own-text s (λ k l. h (suc k) (omega arith)))
+own-text s zero h = refl
+own-text [] (suc n) h = refl
+own-text (x ∷ s) (suc n) h =
+    text-plain x s (h 0 (omega arith) (omega arith) .other)
+    ∙ ap₂ (λ (u : ℕ) (t : List ℕ). u ∷ t) (h 0 (omega arith) (omega arith) .read) (own-text s n (λ k l m. h (suc k) (omega arith) (omega arith)))
 
-own-old : (s : List ℕ) → AllOwn s → map oldUnit s ≡ s
-own-old [] h = refl
-own-old (x ∷ s) h = ap₂ (λ (u : ℕ) (t : List ℕ). u ∷ t) (h 0 (omega arith) .old) (own-old s (λ k l. h (suc k) (omega arith)))
+own-old : (s : List ℕ) (n : ℕ) → OwnFrom s 0 n → map oldUnit s ≡ take n s ++ map oldUnit (drop n s)
+own-old s zero h = refl
+own-old [] (suc n) h = refl
+own-old (x ∷ s) (suc n) h = ap₂ (λ (u : ℕ) (t : List ℕ). u ∷ t) (h 0 (omega arith) (omega arith) .old) (own-old s n (λ k l m. h (suc k) (omega arith) (omega arith)))
 
-pub own-reads : (old : Bool) (s : List ℕ) → AllOwn s → readAs old s ≡ s
+pub own-reads : (old : Bool) (s : List ℕ) (n : ℕ) → OwnFrom s 0 n → readAs old s ≡ take n s ++ readAs old (drop n s)
 unfolding readAs
-own-reads true s h = own-old s h
-own-reads false s h = own-text s h
+own-reads true s n h = own-old s n h
+own-reads false s n h = own-text s n h
+
+-- so there are at least as many units as of them
+pub own-fewer : (old : Bool) (s : List ℕ) (n : ℕ) → n ≤ length s → OwnFrom s 0 n → n ≤ length (readAs old s)
+own-fewer old s n within own =
+    omega (arith, ap length (own-reads old s n own), length-append (take n s) (readAs old (drop n s)), length-take-le n s within)
+
+-- the first n are their own codes, and were laid over the front of the buffer before the loop over the others
+pub record Begun (text start out : List ℕ) (n : ℕ) : Type 0 where
+  pub within : n ≤ length text
+  pub room : n ≤ length start
+  pub own : OwnFrom text 0 n
+  pub held : out ≡ laid (take n text) start
+
+module _ {t start front : List ℕ} {n : ℕ} (b : Begun t start front n) where
+  pub begun-long : length front ≡ length start
+  begun-long = ap length (b .held) ∙ laid-length (take n t) start (omega (arith, length-take-le n t (b .within), b .room))
+
+  pub begun-takes : ((n ≤ length t) × (n ≤ length front) × OwnFrom t 0 n) × (take n front ≡ take n t)
+  unfolding laid
+  begun-takes = (
+    (b .within, omega (arith, begun-long, b .room), b .own),
+    ap (take n) (b .held) ∙ take-at (take n t) (drop (length (take n t)) start) n (length-take-le n t (b .within)),
+  )
+
+  -- the text of such septets goes over them, and is no more than they are where there are no others
+  module _ (old : Bool) where
+    pub text-over : laid (readAs old t) front ≡ laid (readAs old t) start
+    text-over =
+        ap (laid (readAs old t)) (b .held)
+        ∙ laid-over (readAs old t) (take n t) start (omega (arith, own-fewer old t n (b .within) (b .own), length-take-le n t (b .within)))
+
+    pub text-whole : length t ≤ n → (n ≡ length (readAs old t)) × (front ≡ laid (readAs old t) start)
+    text-whole whole =
+        let e : readAs old t ≡ take n t =
+        own-reads old t n (b .own) ∙ ap (λ (s : List ℕ). take n t ++ s) (read-over old t n whole) ∙ append-nil (take n t) in
+        (sym (ap length e ∙ length-take-le n t (b .within)), b .held ∙ ap (λ (s : List ℕ). laid s start) (sym e))
+
+-- the loop may begin after them, where the buffer holds them
+pub laying-front : (old : Bool) (s out : List ℕ) (n : ℕ) → n ≤ length out → OwnFrom s 0 n → take n out ≡ take n s → Laying out (readAs old s) (readAs old (drop n s)) n out
+laying-front old s out n room own same =
+    record { here = room; long = refl; done = ap (λ (xs : List ℕ). xs ++ readAs old (drop n s)) same ∙ sym (own-reads old s n own); kept = refl }

@@ -1,7 +1,7 @@
 -- Septets to text, one unit after the other: what a loop over septets knows at each turn.
 -- Assumes nothing.
 use mathlib.Core.Path.{_≡_, refl, ap, _∙_, sym, subst}
-use mathlib.Core.Bool.{Bool, true, false, cond, false≢true}
+use mathlib.Core.Bool.{Bool, true, false, cond}
 use mathlib.Core.List.{List, [], _∷_, map}
 use Prim.Native.Nat.{ℕ, suc, _+_, _<_, _≤_}
 use native.Mathlib.Numerals.{add-one}
@@ -9,14 +9,14 @@ use native.Mathlib.Omega.{arith}
 use lib.Dec.{eqb, ltb}
 use lib.ListN.{length, getD, drop, drop-of-length-le, length-map}
 use lib.Seq.{drop-cons}
-use borrow.Author.Tests.{lt-ltb, le-ltb, ltb-true, ltb-false, eq-eqb, ne-eqb, eqb-true, eqb-false}
+use borrow.Author.Tests.{lt-ltb, le-ltb, eq-eqb, ne-eqb}
 use Rattle.words.specs.declared.Refusal.the-variants.{NoSeptet}
 use Rattle.words.specs.declared.Filled.the-variants.{Refused}
 use Rattle.words.specs.Judging.{verdict}
 use Rattle.words.proofs.Filling.{Fills, fills-refused}
 use Rattle.alphabet.specs.Tables.{escape, space}
 use Rattle.alphabet.specs.Reading.{mainUnit, afterEscape, textOf, textEscaped, oldUnit, readAs, firstWide, textRules, textAnswers, textLeaves, showRules, showAnswers, showLeaves}
-use Rattle.alphabet.specs.Inner.{shown, shownAs, escapesAt, firstRead, Stepped}
+use Rattle.alphabet.specs.Inner.{shown, firstRead, Stepped}
 
 pub text-plain : (x : ℕ) (xs : List ℕ) → (x ≡ escape → ⊥) → textOf (x ∷ xs) ≡ mainUnit x ∷ textOf xs
 unfolding textOf
@@ -38,16 +38,12 @@ pub shown-plain : (code : ℕ) → (code ≡ escape → ⊥) → shown code ≡ 
 unfolding shown
 shown-plain code ne = simp (ne-eqb code escape ne)
 
-shown-escape : shown escape ≡ space
-unfolding shown
-shown-escape = refl
-
 -- one step of a reading that answers the unit u
 module _ (s : List ℕ) (i : ℕ) (h : i < length s) (u : ℕ) where
   next-is : drop (suc i) s ≡ drop (i + 1) s
   next-is = ap (λ (k : ℕ). drop k s) (sym (add-one i))
 
-  step-old : u ≡ oldUnit (getD s i 0) → Stepped true s i u (i + 1)
+  pub step-old : u ≡ oldUnit (getD s i 0) → Stepped true s i u (i + 1)
   unfolding readAs
   step-old e =
       record {
@@ -56,7 +52,7 @@ module _ (s : List ℕ) (i : ℕ) (h : i < length s) (u : ℕ) where
         within = omega arith;
       }
 
-  step-plain : (getD s i 0 ≡ escape → ⊥) → u ≡ shown (getD s i 0) → Stepped false s i u (i + 1)
+  pub step-plain : (getD s i 0 ≡ escape → ⊥) → u ≡ shown (getD s i 0) → Stepped false s i u (i + 1)
   unfolding readAs
   step-plain ne e =
       record {
@@ -68,7 +64,7 @@ module _ (s : List ℕ) (i : ℕ) (h : i < length s) (u : ℕ) where
         within = omega arith;
       }
 
-  step-pair : getD s i 0 ≡ escape → i + 1 < length s → u ≡ afterEscape (getD s (i + 1) 0) → Stepped false s i u (i + 1 + 1)
+  pub step-pair : getD s i 0 ≡ escape → i + 1 < length s → u ≡ afterEscape (getD s (i + 1) 0) → Stepped false s i u (i + 1 + 1)
   unfolding readAs
   step-pair e l f =
       record {
@@ -81,7 +77,7 @@ module _ (s : List ℕ) (i : ℕ) (h : i < length s) (u : ℕ) where
         within = omega arith;
       }
 
-  step-last : getD s i 0 ≡ escape → i + 1 ≡ length s → u ≡ space → Stepped false s i u (i + 1)
+  pub step-last : getD s i 0 ≡ escape → i + 1 ≡ length s → u ≡ space → Stepped false s i u (i + 1)
   unfolding readAs textOf
   step-last e l f =
       let past : length s ≤ i + 1 = omega arith in
@@ -96,28 +92,14 @@ module _ (s : List ℕ) (i : ℕ) (h : i < length s) (u : ℕ) where
         within = omega arith;
       }
 
--- the same by the code's test: an escape and a code
-pub step-escape : (old : Bool) (s : List ℕ) (i : ℕ) → i < length s → (u : ℕ) → true ≡ escapesAt old s i → u ≡ afterEscape (getD s (i + 1) 0) → Stepped old s i u (i + 1 + 1)
-unfolding escapesAt
-step-escape true s i h u e f = absurd (false≢true (sym e))
-step-escape false s i h u e f = go (eqb (getD s i 0) escape) refl e
-  where
-    go : (b : Bool) → eqb (getD s i 0) escape ≡ b → true ≡ cond b (ltb (i + 1) (length s)) false → Stepped false s i u (i + 1 + 1)
-    go true q e = step-pair s i h u (eqb-true (getD s i 0) escape q) (ltb-true (i + 1) (length s) (sym e)) f
-    go false q e = absurd (false≢true (sym e))
+-- a code that is not the one mark of its reading is read by the main table: in an old page the escape too, for which a space is shown
+old-shown : (code : ℕ) → (code ≡ 0x11 → ⊥) → oldUnit code ≡ shown code
+unfolding oldUnit shown
+old-shown code ne = simp (ne-eqb code 0x11 ne)
 
--- or one septet, which may be an escape at the end
-pub step-one : (old : Bool) (s : List ℕ) (i : ℕ) → i < length s → (u : ℕ) → false ≡ escapesAt old s i → u ≡ shownAs old (getD s i 0) → Stepped old s i u (i + 1)
-unfolding escapesAt shownAs
-step-one true s i h u e f = step-old s i h u f
-step-one false s i h u e f = go (eqb (getD s i 0) escape) refl e
-  where
-    go : (b : Bool) → eqb (getD s i 0) escape ≡ b → false ≡ cond b (ltb (i + 1) (length s)) false → Stepped false s i u (i + 1)
-    go true q e =
-        let at : getD s i 0 ≡ escape = eqb-true (getD s i 0) escape q in
-        let last : length s ≤ i + 1 = ltb-false (i + 1) (length s) (sym e) in
-        step-last s i h u at (omega arith) (f ∙ ap shown at ∙ shown-escape)
-    go false q e = step-plain s i h u (eqb-false (getD s i 0) escape q) f
+pub step-shown : (old : Bool) (s : List ℕ) (i : ℕ) → i < length s → (u mark : ℕ) → mark ≡ cond old 0x11 0x1b → (getD s i 0 ≡ mark → ⊥) → u ≡ shown (getD s i 0) → Stepped old s i u (i + 1)
+step-shown true s i h u mark e ne f = step-old s i h u (f ∙ sym (old-shown (getD s i 0) (λ at. ne (at ∙ sym e))))
+step-shown false s i h u mark e ne f = step-plain s i h u (λ at. ne (at ∙ sym e)) f
 
 -- no septet is left
 pub read-over : (old : Bool) (s : List ℕ) (i : ℕ) → length s ≤ i → readAs old (drop i s) ≡ []

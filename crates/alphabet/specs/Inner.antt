@@ -2,16 +2,13 @@
 -- Own rule: none. Assumes nothing.
 --   listing k              == what an entry k of the reverse tables says of its unit
 --   shown code             == the code's unit of the main table, and a space for the escape
---   shownAs old code       == the same, or the code's unit in an old page
 --   Own u                  == the unit u is its own code, in an old page too
 --   OwnFrom s a b          == each unit of s from place a to place b is its own code
---   AllOwn s               == each unit of s is its own code
---   escapesAt old s i      == whether an escape with a code after it stands at place i of s, as only the present alphabet has it
 --   firstRead old s i      == the unit that reading s from place i on gives first
 --   Stepped old s i u next == reading s from place i on gives the unit u first, and goes on at next
 use mathlib.Core.Path.{_≡_}
-use Prim.Native.Nat.{ℕ, _-_, _<_, _≤_, _+_}
-use mathlib.Core.Bool.{Bool, false, cond}
+use Prim.Native.Nat.{ℕ, _-_, _<_, _≤_}
+use mathlib.Core.Bool.{Bool, cond}
 use mathlib.Core.List.{List, _∷_}
 use lib.Dec.{eqb, ltb}
 use lib.ListN.{length, getD, drop}
@@ -28,9 +25,6 @@ listing k = cond (ltb k 0x80) (Main k) (cond (ltb k 0xff) (Extension (k - 0x80))
 unfoldable pub shown : ℕ → ℕ
 shown code = cond (eqb code escape) space (mainUnit code)
 
-unfoldable pub shownAs : Bool → ℕ → ℕ
-shownAs old code = cond old (oldUnit code) (shown code)
-
 pub record Own (u : ℕ) : Type 0 where
   pub below : u < 0x80
   pub written : listedAs u ≡ Main u
@@ -40,12 +34,6 @@ pub record Own (u : ℕ) : Type 0 where
 
 abbrev pub OwnFrom : List ℕ → ℕ → ℕ → Type 0
 OwnFrom s a b = (k : ℕ) → k < b → a ≤ k → Own (getD s k 0)
-
-abbrev pub AllOwn : List ℕ → Type 0
-AllOwn s = (k : ℕ) → k < length s → Own (getD s k 0)
-
-unfoldable pub escapesAt : Bool → List ℕ → ℕ → Bool
-escapesAt old septets i = cond old false (cond (eqb (getD septets i 0) escape) (ltb (i + 1) (length septets)) false)
 
 -- the first unit of what is left from place i on
 abbrev pub firstRead : Bool → List ℕ → ℕ → ℕ

@@ -1,15 +1,12 @@
 // Units that are their own codes, as most letters, digits and signs are: a test without branches or tables, and plain copies.
 // A loop over the test vectorises, eight units or sixteen septets at a time.
 ghost use mathlib.Core.Path.{_≡_};
-ghost use mathlib.Core.Bool.{true, cond};
+ghost use mathlib.Core.Bool.{cond};
 ghost use Prim.Native.Nat.{_+_, _-_, _≤_};
 ghost use lib.Dec.{eqb};
 ghost use lib.ListN.{length, take};
 ghost use Rattle.words.specs.Lists.{laid};
-ghost use Rattle.alphabet.specs.Reading.{readAs, showAnswers, showLeaves};
-ghost use Rattle.alphabet.specs.Inner.{Own, OwnFrom, AllOwn};
-use words::Filled;
-use words::Refusal;
+ghost use Rattle.alphabet.specs.Inner.{Own, OwnFrom};
 
 // By how much a is above b, or 0.
 fn above(a: u16, b: u16) -> u16
@@ -78,14 +75,14 @@ fn odd_eight_units(text: &[u16], n: usize) -> u16
     odd_units(text, n, n + 8)
 }
 
-// How many units at the front of a text are their own codes: all of them, or as many eights as were found to be. None of a text that is
-// shorter than eight, which costs no more unit by unit. Sixteen at a time, and the end eight at a time, the last eight over again where they
+// How many units at the front of a text are their own codes: all of them, or as many eights as were found to be. None of a text of
+// eight or fewer, which costs no more unit by unit. Sixteen at a time, and the end eight at a time, the last eight over again where they
 // overlap: a loop over fewer would not vectorise.
 pub(crate) fn own_front(text: &[u16]) -> usize
     ensures { λ r. ⌜ (r ≤ length (now (text .entry))) × OwnFrom (now (text .entry)) 0 r ⌝ }
 {
     let len = text.len();
-    if len < 8 {
+    if len < 9 {
         return 0;
     }
     let mut n: usize = 0;
@@ -134,29 +131,43 @@ fn odd_eight(septets: &[u8], n: usize) -> u8
     odd_septets(septets, n, n + 8)
 }
 
-// True only for septets of which each is its own unit, and false for fewer than eight. 32 at a time, then eight, the last eight over again
-// where they overlap: a loop over fewer would go septet by septet.
-pub(crate) fn all_own(septets: &[u8]) -> bool
-    ensures { λ r. ⌜ (r ≡ true → AllOwn (now (septets .entry))) ⌝ }
+// How many septets at the front are their own units, where as many as `from` were found to be: all of them, or eights from there on. The last
+// eight are tested over again where they overlap: a loop over fewer would go septet by septet.
+fn own_eights(septets: &[u8], from: usize) -> usize
+    requires { ⌜ (8 ≤ length (now septets)) × (from ≤ length (now septets)) × OwnFrom (now septets) 0 from ⌝ }
+    ensures { λ r. ⌜ (r ≤ length (now (septets .entry))) × OwnFrom (now (septets .entry)) 0 r ⌝ }
 {
     let len = septets.len();
-    if len < 8 {
-        return false;
+    let mut n = from;
+    while 8 <= len - n {
+        if odd_eight(septets, n) != 0 {
+            return n;
+        }
+        n += 8;
+    }
+    if odd_eight(septets, len - 8) != 0 {
+        return n;
+    }
+    len
+}
+
+// How many septets at the front are their own units: 32 at a time, then eight, or all of them. None of eight or fewer septets, of which the
+// test costs more than it saves.
+pub(crate) fn own_septets(septets: &[u8]) -> usize
+    ensures { λ r. ⌜ (r ≤ length (now (septets .entry))) × OwnFrom (now (septets .entry)) 0 r ⌝ }
+{
+    let len = septets.len();
+    if len < 9 {
+        return 0;
     }
     let mut n: usize = 0;
     while 32 <= len - n {
         if odd_septets(septets, n, n + 32) != 0 {
-            return false;
+            return own_eights(septets, n);
         }
         n += 32;
     }
-    while 8 <= len - n {
-        if odd_eight(septets, n) != 0 {
-            return false;
-        }
-        n += 8;
-    }
-    odd_eight(septets, len - 8) == 0
+    own_eights(septets, n)
 }
 
 // Lays the first n units over the front of the buffer as septets.
@@ -172,29 +183,15 @@ pub(crate) fn copy_units(text: &[u16], n: usize, out: &mut [u8])
     }
 }
 
-// Lays the septets over the front of the buffer as units.
-fn copy_septets(septets: &[u8], out: &mut [u16])
-    requires { ⌜ AllOwn (now septets) ⌝ }
-    requires { ⌜ length (now septets) ≤ length (now out) ⌝ }
-    ensures { λ r. ⌜ now (out .exit) ≡ laid (now (septets .entry)) (now (out .entry)) ⌝ }
+// Lays the first n septets over the front of the buffer as units.
+pub(crate) fn copy_septets(septets: &[u8], n: usize, out: &mut [u16])
+    requires { ⌜ OwnFrom (now septets) 0 n ⌝ }
+    requires { ⌜ (n ≤ length (now septets)) × (n ≤ length (now out)) ⌝ }
+    ensures { λ r. ⌜ now (out .exit) ≡ laid (take n (now (septets .entry))) (now (out .entry)) ⌝ }
 {
     let mut i: usize = 0;
-    while i < septets.len() {
+    while i < n {
         out[i] = septets[i] as u16;
         i += 1;
     }
-}
-
-// Septets to text, of septets of which each is its own unit.
-pub(crate) fn fill_text(septets: &[u8], old: bool, out: &mut [u16]) -> Filled
-    requires { ⌜ AllOwn (now septets) ⌝ }
-    ensures answer { λ r. ⌜ r ≡ showAnswers (readAs old (now (septets .entry))) (length (now (out .entry))) ⌝ }
-    ensures buffer { λ r. ⌜ now (out .exit) ≡ showLeaves (readAs old (now (septets .entry))) (now (out .entry)) ⌝ }
-{
-    let n = septets.len();
-    if out.len() < n {
-        return Filled::Refused(Refusal::NoRoom);
-    }
-    copy_septets(septets, out);
-    Filled::Done(n)
 }

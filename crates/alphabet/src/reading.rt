@@ -1,28 +1,15 @@
 // Septets to text, for the present alphabet and for an old page: the judging passes, and the pass that writes.
 ghost use mathlib.Core.Path.{_≡_};
+ghost use mathlib.Core.Bool.{cond};
 ghost use Prim.Native.Nat.{_≤_, _<_};
-ghost use lib.ListN.{length};
+ghost use lib.ListN.{length, take};
 ghost use Rattle.words.specs.Lists.{laid};
-ghost use Rattle.alphabet.specs.Reading.{readAs, firstWide, textAnswers, textLeaves, showAnswers, showLeaves};
-ghost use Rattle.alphabet.specs.Inner.{escapesAt, firstRead, Stepped};
+ghost use Rattle.alphabet.specs.Reading.{readAs, textAnswers, textLeaves, showAnswers, showLeaves};
+ghost use Rattle.alphabet.specs.Inner.{OwnFrom, firstRead, Stepped};
 use crate::own;
 use crate::tables;
 use words::Filled;
 use words::Refusal;
-
-// The place of the first septet of 128 or more, or the number of septets where there is none.
-fn first_wide(septets: &[u8]) -> usize
-    ensures answer { λ r. ⌜ r ≡ firstWide (now (septets .entry)) ⌝ }
-{
-    let mut at = 0;
-    while at < septets.len() {
-        if septets[at] >= 128 {
-            return at;
-        }
-        at += 1;
-    }
-    at
-}
 
 // One unit, and the place where reading goes on.
 struct Step {
@@ -30,36 +17,35 @@ struct Step {
     next: usize,
 }
 
-// Whether an escape with a code after it stands at i.
-fn escapes(septets: &[u8], old: bool, i: usize) -> bool
-    requires { ⌜ i < length (now septets) ⌝ }
-    ensures answer { λ r. ⌜ r ≡ escapesAt old (now (septets .entry)) i ⌝ }
-{
-    if old {
-        return false;
-    }
-    if septets[i] != 0x1b {
-        return false;
-    }
-    i + 1 < septets.len()
-}
-
-// The unit that is read at i, and where reading goes on: an escape and a code, or one septet. There is one call of each table, so that the
-// compiler puts it in place.
-fn read_step(septets: &[u8], old: bool, i: usize) -> Step
-    requires { ⌜ i < length (now septets) ⌝ }
+// The unit that is read at i, and where reading goes on: an escape and a code, or one septet. The mark is the one code that is not read by the
+// main table, so that most septets pass one comparison. There is one call of each table, so that the compiler puts it in place.
+fn read_step(septets: &[u8], old: bool, mark: u8, i: usize) -> Step
+    requires { ⌜ (i < length (now septets)) × (mark ≡ cond old 0x11 0x1b) ⌝ }
     ensures answer { λ r. ⌜ Stepped old (now (septets .entry)) i (r .unit) (r .next) ⌝ }
 {
+    let code = septets[i];
     let j = i + 1;
-    if escapes(septets, old, i) {
+    if code != mark {
         return Step {
-            unit: tables::after_escape(septets[j]),
-            next: j + 1,
+            unit: tables::shown_unit(code),
+            next: j,
+        };
+    }
+    if old {
+        return Step {
+            unit: 0x0020,
+            next: j,
+        };
+    }
+    if j == septets.len() {
+        return Step {
+            unit: 0x0020,
+            next: j,
         };
     }
     Step {
-        unit: tables::unit_of(septets[i], old),
-        next: j,
+        unit: tables::after_escape(septets[j]),
+        next: j + 1,
     }
 }
 
@@ -69,10 +55,16 @@ fn next_place(septets: &[u8], old: bool, i: usize) -> usize
     ensures answer { λ r. ⌜ Stepped old (now (septets .entry)) i (firstRead old (now (septets .entry)) i) r ⌝ }
 {
     let j = i + 1;
-    if escapes(septets, old, i) {
-        return j + 1;
+    if old {
+        return j;
     }
-    j
+    if septets[i] != 0x1b {
+        return j;
+    }
+    if j == septets.len() {
+        return j;
+    }
+    j + 1
 }
 
 // The number of units that the septets read as.
@@ -88,16 +80,20 @@ fn units_in(septets: &[u8], old: bool) -> usize
     n
 }
 
-// Lays the text of the septets over the front of the buffer, and answers how many units it has.
-fn lay_text(septets: &[u8], old: bool, out: &mut [u16]) -> usize
+// Lays the text of the septets over the front of the buffer, and answers how many units it has. The first septets are their own units, and
+// stand in the buffer already.
+fn lay_text(septets: &[u8], old: bool, front: usize, out: &mut [u16]) -> usize
+    requires { ⌜ (front ≤ length (now septets)) × (front ≤ length (now out)) × OwnFrom (now septets) 0 front ⌝ }
+    requires { ⌜ take front (now out) ≡ take front (now septets) ⌝ }
     requires { ⌜ length (readAs old (now septets)) ≤ length (now out) ⌝ }
     ensures answer { λ r. ⌜ r ≡ length (readAs old (now (septets .entry))) ⌝ }
     ensures buffer { λ r. ⌜ now (out .exit) ≡ laid (readAs old (now (septets .entry))) (now (out .entry)) ⌝ }
 {
-    let mut n: usize = 0;
-    let mut i = 0;
+    let mark: u8 = if old { 0x11 } else { 0x1b };
+    let mut n: usize = front;
+    let mut i = front;
     while i < septets.len() {
-        let step = read_step(septets, old, i);
+        let step = read_step(septets, old, mark, i);
         out[n] = step.unit;
         n += 1;
         i = step.next;
@@ -105,21 +101,23 @@ fn lay_text(septets: &[u8], old: bool, out: &mut [u16]) -> usize
     n
 }
 
-// Septets to text, whatever they are: septets that are their own units are copied, others are read by a table.
+// Septets to text, whatever they are: the front that is its own units is copied, the rest is read by a table.
 // Units are never more than septets, so only a buffer that is shorter than those is measured.
 pub(crate) fn read_text(septets: &[u8], old: bool, out: &mut [u16]) -> Filled
     ensures answer { λ r. ⌜ r ≡ showAnswers (readAs old (now (septets .entry))) (length (now (out .entry))) ⌝ }
     ensures buffer { λ r. ⌜ now (out .exit) ≡ showLeaves (readAs old (now (septets .entry))) (now (out .entry)) ⌝ }
 {
-    if own::all_own(septets) {
-        return own::fill_text(septets, old, out);
-    }
     if out.len() < septets.len() {
         if out.len() < units_in(septets, old) {
             return Filled::Refused(Refusal::NoRoom);
         }
     }
-    let n = lay_text(septets, old, out);
+    let front = own::own_septets(septets);
+    own::copy_septets(septets, front, out);
+    if front == septets.len() {
+        return Filled::Done(front);
+    }
+    let n = lay_text(septets, old, front, out);
     Filled::Done(n)
 }
 
@@ -128,7 +126,7 @@ pub(crate) fn judge_text(septets: &[u8], old: bool, out: &mut [u16]) -> Filled
     ensures answer { λ r. ⌜ r ≡ textAnswers (now (septets .entry)) (readAs old (now (septets .entry))) (length (now (out .entry))) ⌝ }
     ensures buffer { λ r. ⌜ now (out .exit) ≡ textLeaves (now (septets .entry)) (readAs old (now (septets .entry))) (now (out .entry)) ⌝ }
 {
-    let wide = first_wide(septets);
+    let wide = words::first_wide(septets);
     if wide < septets.len() {
         return Filled::Refused(Refusal::NoSeptet { septet: wide });
     }

@@ -5,7 +5,7 @@ ghost use mathlib.Core.Path.{_≡_};
 ghost use Prim.Native.Nat.{_≤_, _<_};
 ghost use Rattle.alphabet.specs.Writing.{listedAs};
 ghost use Rattle.alphabet.specs.Reading.{afterEscape};
-ghost use Rattle.alphabet.specs.Inner.{listing, shown, shownAs};
+ghost use Rattle.alphabet.specs.Inner.{listing, shown};
 use crate::Listed;
 
 // What an entry says of its unit.
@@ -44,7 +44,7 @@ pub(crate) fn entry_of(unit: u16) -> u8
 
 // The code's unit of the main table, a space for the escape, and 0 for what is no code.
 // The compiler makes a constant table of a match with an arm for each code, where an array would be built each time.
-fn shown_unit(code: u8) -> u16
+pub(crate) fn shown_unit(code: u8) -> u16
     ensures answer { λ r. ⌜ r ≡ shown code ⌝ }
 {
     match code {
@@ -315,19 +315,6 @@ pub(crate) fn after_escape(code: u8) -> u16
         0x7f => 0x00e0,
         _ => 0,
     }
-}
-
-// The code's unit where no escape stands before it, in an old page or in the present alphabet.
-pub(crate) fn unit_of(code: u8, old: bool) -> u16
-    ensures answer { λ r. ⌜ r ≡ shownAs old code ⌝ }
-{
-    let unit = shown_unit(code);
-    if old {
-        if code == 0x11 {
-            return 0x0020;
-        }
-    }
-    unit
 }
 
 // The entry of a unit below 0x100. The compiler makes a constant table of the match, where an array would be built each time.

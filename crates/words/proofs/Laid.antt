@@ -2,7 +2,7 @@
 -- Assumes nothing.
 use mathlib.Core.Path.{_≡_, refl, ap, ap₂, _∙_, sym, subst}
 use mathlib.Core.List.{List, [], _∷_, _++_, append-assoc, append-nil}
-use Prim.Native.Nat.{ℕ, _+_, _≤_, _<_}
+use Prim.Native.Nat.{ℕ, _+_, _-_, _≤_, _<_}
 use native.Mathlib.Numerals.{add-one}
 use native.Mathlib.Omega.{arith}
 use lib.ListN.{length, take, drop, set, getD, length-append, length-set, take-append-drop, length-drop, drop-of-length-le}
@@ -87,3 +87,12 @@ laid-then xs ys start n m p q =
     ap₂ (λ (a b : List ℕ). a ++ ys ++ b) (take-at xs (drop (length xs) start) n p)
     (ap (λ (k : ℕ). drop (k + m) (laid xs start)) (sym p) ∙ drop-append-add xs (drop (length xs) start) m ∙ drop-drop m (length xs) start)
     ∙ ap (λ (k : ℕ). (xs ++ ys) ++ drop k start) (sym (length-append xs ys ∙ ap (λ (k : ℕ). length xs + k) q))
+
+-- a list that was laid does not matter where another as long or longer goes over it
+pub laid-over : (xs ys start : List ℕ) → length ys ≤ length xs → laid xs (laid ys start) ≡ laid xs start
+unfolding laid
+laid-over xs ys start h =
+    let far : length xs ≡ length ys + (length xs - length ys) = omega arith in
+    ap (λ (k : ℕ). xs ++ drop k (ys ++ drop (length ys) start)) far
+    ∙ ap (λ (s : List ℕ). xs ++ s) (drop-append-add ys (drop (length ys) start) (length xs - length ys) ∙ drop-drop (length xs - length ys) (length ys) start)
+    ∙ ap (λ (k : ℕ). xs ++ drop k start) (sym far)

@@ -12,6 +12,8 @@ use Rattle.words.proofs.Refusal.number.Kinds as number-kinds
 use Rattle.words.proofs.Refusal.number.Reads as number
 use Rattle.words.proofs.Refusal.position.Kinds as position-kinds
 use Rattle.words.proofs.Refusal.position.Reads as position
+use Rattle.words.proofs.first_wide.Kinds as first-wide-kinds
+use Rattle.words.proofs.first_wide.Reads as first-wide
 
 pub most-septets-unique : OneAnswer septets-kinds.ps septets-kinds.r septets.Post
 most-septets-unique κs a x y u v p q = p ∙ sym q
@@ -27,3 +29,6 @@ number-unique κs a x y u v p q = p ∙ sym q
 
 pub position-unique : OneAnswer position-kinds.ps position-kinds.r position.Post
 position-unique κs a x y u v p q = p ∙ sym q
+
+pub first-wide-unique : OneAnswer first-wide-kinds.ps first-wide-kinds.r first-wide.Post
+first-wide-unique κs a x y u v p q = p ∙ sym q

@@ -1,5 +1,5 @@
 -- Lists: the first place at which a test holds, a buffer whose front is overwritten, and a run of numbers.
--- Own rule: none. Cited by the definitions of the alphabet, the packings and the messages. Assumes nothing.
+-- Own rule: none. Cited by first_wide and by the definitions of the alphabet, the packings and the messages. Assumes nothing.
 --   firstPlace f s  == the place of the first element of s at which f holds, and the length of s where there is none
 --   laid xs out     == out with its front overwritten by xs
 --   numbersFrom i n == the n numbers from i on

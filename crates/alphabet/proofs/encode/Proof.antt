@@ -10,7 +10,8 @@ use Rattle.words.specs.Lists.{laid}
 use Rattle.words.proofs.Places.{passed-over}
 use Rattle.alphabet.specs.Writing.{listedAs, isUnlisted}
 use Rattle.alphabet.specs.Inner.{OwnFrom}
-use Rattle.alphabet.proofs.Encodings.{Begun, begun-long, begun-takes, encoding-front, encoded, encodes-over}
+use Rattle.alphabet.proofs.Encodings.{encoding-front, encoded, encodes-over}
+use Rattle.alphabet.proofs.OwnCodes.{Begun, begun-long, begun-takes}
 use borrow.Author.Needs.{needs}
 use Rattle.alphabet.proofs.encode.Statement.{statement}
 use Rattle.alphabet.proofs.encode.Tie as tie
