@@ -25,14 +25,13 @@ use Rattle.stream.specs.UssdPacking.{last, addsCr, withCr, closed, ussdOctets, 
 use Rattle.stream.specs.Pages.{page, pageOctets, pageSeptets}
 use Rattle.stream.specs.OldPage.{oldPageSeptets}
 use Rattle.stream.specs.Inner.{value, digits}
-use Rattle.stream.proofs.Numbers.{value-append, recut-append}
+use Rattle.stream.proofs.Numbers.{value-append, recut-append, digits-front}
 use Rattle.stream.proofs.Stream.{packed-digits, unpacked-length}
 use Rattle.stream.proofs.Pages.{replicate-drop, page-length}
 use Rattle.stream.proofs.Ussd.{opened-dropped, opened-kept}
 use Rattle.packing.specs.SeptetCalls.{octetsOf, septetsOf}
 use Rattle.packing.specs.ArrayCalls.{lowBits, allSeptets}
 use Rattle.packing.specs.Inner.{withCrs, sentSeptets, heldCount, closesGroups, lessOne, keptCount}
-use Rattle.packing.proofs.Ends.{digits-front}
 use Rattle.packing.proofs.LowBits.{low-same}
 
 -- ---- reading

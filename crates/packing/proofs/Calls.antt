@@ -1,6 +1,6 @@
 -- A call that has passed its own rules answers and leaves what storing its result does, where only 7 can refuse.
 -- Assumes nothing.
-use mathlib.Core.Path.{_≡_, refl, sym, ap, _∙_, subst}
+use mathlib.Core.Path.{_≡_, refl, sym, ap, _∙_}
 use mathlib.Core.Bool.{Bool, true, false, _&&_, and-false}
 use mathlib.Core.List.{List, [], _∷_}
 use Prim.Native.Nat.{ℕ, _+_, _*_, _/_, _%_, _≤_, _<_}
@@ -8,7 +8,7 @@ use native.Mathlib.Omega.{arith}
 use native.Mathlib.Decide.{decLe}
 use borrow.Author.Tests.{le-ltb, le-leb, lt-leb, eq-eqb, ne-eqb, eqb-true, leb-true, leb-false}
 use lib.Dec.{ltb, leb, eqb}
-use lib.ListN.{length, getD, take, drop, replicate, length-replicate, List·getD-eq-default}
+use lib.ListN.{length, getD, take, drop, List·getD-eq-default}
 use lib.Seq.{take-all, take-append-le}
 use Rattle.words.specs.declared.Service.{Service}
 use Rattle.words.specs.declared.Service.the-variants.{ShortMessage, Broadcast, Ussd, OldPage}
@@ -137,51 +137,47 @@ module _ (service : Service) (o : List ℕ) (count : ℕ) where
         | no h ↦ omega (arith, sym (ap length (kept-front service count o)) ∙ ap length (take-all n all (omega arith)))
       ]
 
-  fitted : septetsFit service (length o) count ≡ true → allAnswers service o count 184 ≡ Done (length (septetsOf service count o))
-  unfolding allRules allAnswers verdict
-  fitted fit = simp (fit, le-ltb _ _ (all-most fit))
+-- what unpacking into an array tells: the octets do not fit, or the septets that are kept stand at its front
+module _ (service : Service) (o : List ℕ) (count : ℕ) (array : List ℕ) (size : length array ≡ 184) where
+  fitted : septetsFit service (length o) count ≡ true
+      → (allAnswers service o count (length array) ≡ Done (length (septetsOf service count o))) × (allLeaves service o count array ≡ laid (allSeptets service count o) array)
+  unfolding allRules allAnswers allLeaves verdict
+  fitted fit =
+      let room : length (allSeptets service count o) ≤ length array = omega (arith, all-most service o count fit) in
+      simp (fit, le-ltb _ _ room) (refl, refl)
 
-  unfitted : septetsFit service (length o) count ≡ false → allAnswers service o count 184 ≡ Refused WrongLength
+  unfitted : septetsFit service (length o) count ≡ false → allAnswers service o count (length array) ≡ Refused WrongLength
   unfolding allRules allAnswers verdict
   unfitted wrong = simp wrong
 
-  -- an answer tells whether the octets fit
-  pub array-done : (n : ℕ) → Done n ≡ allAnswers service o count 184 → (septetsFit service (length o) count ≡ true) × (n ≡ length (septetsOf service count o))
+  pub array-done : (n : ℕ) → Done n ≡ allAnswers service o count (length array) → (septetsFit service (length o) count ≡ true) × (n ≡ length (septetsOf service count o))
   array-done n e = go (septetsFit service (length o) count) refl
     where
       go : (b : Bool) → septetsFit service (length o) count ≡ b → (septetsFit service (length o) count ≡ true) × (n ≡ length (septetsOf service count o))
-      go true fit = let same : Done n ≡ Done (length (septetsOf service count o)) = e ∙ fitted fit in (fit, cc)
+      go true fit = let same : Done n ≡ Done (length (septetsOf service count o)) = e ∙ fitted fit .0 in (fit, cc)
       go false wrong =
           let other : Done n ≡ Refused WrongLength = e ∙ unfitted wrong in
           let z : _≡_ {A = ℕ} 0 1 = cc in
           absurd (omega arith)
 
-  pub array-refused : (r : Refusal) → Refused r ≡ allAnswers service o count 184 → (septetsFit service (length o) count ≡ false) × (r ≡ WrongLength)
+  pub array-refused : (r : Refusal) → Refused r ≡ allAnswers service o count (length array) → (septetsFit service (length o) count ≡ false) × (r ≡ WrongLength)
   array-refused r e = go (septetsFit service (length o) count) refl
     where
       go : (b : Bool) → septetsFit service (length o) count ≡ b → (septetsFit service (length o) count ≡ false) × (r ≡ WrongLength)
       go true fit =
-          let other : Refused r ≡ Done (length (septetsOf service count o)) = e ∙ fitted fit in
+          let other : Refused r ≡ Done (length (septetsOf service count o)) = e ∙ fitted fit .0 in
           let z : _≡_ {A = ℕ} 0 1 = cc in
           absurd (omega arith)
       go false wrong = let same : Refused r ≡ Refused WrongLength = e ∙ unfitted wrong in (wrong, cc)
 
-  array-left : septetsFit service (length o) count ≡ true → allLeaves service o count (replicate 184 0) ≡ laid (allSeptets service count o) (replicate 184 0)
-  unfolding allRules allLeaves verdict
-  array-left fit = simp (fit, le-ltb _ _ (subst (λ (n : ℕ). length (allSeptets service count o) ≤ n) (sym (length-replicate {A = ℕ} 184 0)) (all-most fit)))
+  pub array-length : (left : List ℕ) → septetsFit service (length o) count ≡ true → left ≡ allLeaves service o count array → length left ≡ 184
+  array-length left fit e =
+      ap length (e ∙ fitted fit .1) ∙ laid-length (allSeptets service count o) array (omega (arith, all-most service o count fit)) ∙ size
 
-  -- the array then has what is kept at its front
-  pub array-length : (array : List ℕ) → septetsFit service (length o) count ≡ true → array ≡ allLeaves service o count (replicate 184 0) → length array ≡ 184
-  array-length array fit e =
-      ap length (e ∙ array-left fit)
-      ∙ laid-length (allSeptets service count o) (replicate 184 0) (omega (arith, all-most fit, length-replicate {A = ℕ} 184 0))
-      ∙ length-replicate {A = ℕ} 184 0
-
-  pub array-front : (array : List ℕ) → septetsFit service (length o) count ≡ true → array ≡ allLeaves service o count (replicate 184 0)
-      → take (length (septetsOf service count o)) array ≡ septetsOf service count o
+  pub array-front : (left : List ℕ) → septetsFit service (length o) count ≡ true → left ≡ allLeaves service o count array → take (length (septetsOf service count o)) left ≡ septetsOf service count o
   unfolding laid
-  array-front array fit e =
+  array-front left fit e =
       let n : ℕ = length (septetsOf service count o) in
-      ap (take n) (e ∙ array-left fit)
-      ∙ take-append-le n (allSeptets service count o) (drop (length (allSeptets service count o)) (replicate 184 0)) kept-most
+      ap (take n) (e ∙ fitted fit .1)
+      ∙ take-append-le n (allSeptets service count o) (drop (length (allSeptets service count o)) array) (kept-most service o count)
       ∙ kept-front service count o

@@ -1,38 +1,22 @@
 -- The end after whole groups, fewer than eight octets of a number: stored from the lowest on, or joined from the highest on, in runs.
 -- Assumes nothing.
 use mathlib.Core.Path.{_≡_, refl, sym, ap, ap₂, _∙_}
-use mathlib.Core.List.{List, _∷_, _++_, append-assoc, append-nil}
-use Prim.Native.Nat.{ℕ, zero, suc, _+_, _-_, _*_, _/_, _%_, _^_, _≤_, _<_}
-use native.Mathlib.Nat.{zero-add, suc-add, div-one, pow-zero, pow-succ', div-div-eq-div-mul}
+use mathlib.Core.List.{List, _++_, append-assoc, append-nil}
+use Prim.Native.Nat.{ℕ, _+_, _*_, _/_, _%_, _^_, _≤_, _<_}
+use native.Mathlib.Nat.{div-one, div-div-eq-div-mul}
 use native.Mathlib.Omega.{arith}
 use lib.Bits.{bitOr, or-shifted}
 use lib.Pow.{pow-add, shl-exact}
 use lib.ListN.{length, getD, take, drop, length-append, length-drop, take-append-drop}
-use lib.Seq.{length-take-le, take-add, take-at, drop-drop, drop-cons}
+use lib.Seq.{length-take-le, take-add, drop-drop, drop-cons}
 use Rattle.words.specs.Lists.{laid}
 use Rattle.words.proofs.Laid.{laid-then, laid-length}
 use Rattle.words.proofs.Below.{Below}
 use Rattle.stream.specs.Inner.{value, digits}
-use Rattle.stream.proofs.Numbers.{pow-mul, digits-length, value-one, value-append}
+use Rattle.stream.proofs.Numbers.{pow-mul, digits-length, digits-split, value-one, value-append}
 use Rattle.packing.proofs.Folds.{octets-fit}
 
 -- ---- storing
-
-digits-split : (b n m v : ℕ) → digits b (n + m) v ≡ digits b n v ++ digits b m (v / b ^ n)
-unfolding digits
-digits-split b zero m v = rw zero-add (ap (digits b m) (sym (div-one v) ∙ ap (λ (d : ℕ). v / d) (sym (pow-zero b))))
-digits-split b (suc n) m v =
-    rw suc-add
-    (ap (λ (l : List ℕ). v % b ∷ l)
-    (digits-split b n m (v / b) ∙ ap (λ (d : ℕ). digits b n (v / b) ++ digits b m d) (div-div-eq-div-mul v b (b ^ n) ∙ ap (λ (d : ℕ). v / d) (sym (pow-succ' b n)))))
-
--- the first digits are the same however many are written
-pub digits-front : (b n k v : ℕ) → k ≤ n → take k (digits b n v) ≡ digits b k v
-digits-front b n k v h =
-    let whole : n ≡ k + (n - k) = omega arith in
-    ap (λ (i : ℕ). take k (digits b i v)) whole
-    ∙ ap (take k) (digits-split b k (n - k) v)
-    ∙ take-at (digits b k v) (digits b (n - k) (v / b ^ k)) k (digits-length b k v)
 
 -- the first i octets of v are stored in d from at on: w is what is left of v, and k the place of the next
 pub record Put (d : List ℕ) (at v i : ℕ) (out : List ℕ) (w k : ℕ) : Type 0 where

@@ -128,14 +128,6 @@ stretch-digits v fits =
     let h : Below 128 (digits 128 8 v) = digits-below 128 8 v (lit< tt) in
     stretched _ _ _ _ _ _ _ _ (h 0) (h 1) (h 2) (h 3) (h 4) (h 5) (h 6) (h 7) v (value-digits 128 8 v (lit< tt) fits)
 
--- eight septets of a list, joined as octets
-pub octets-of : (s : List ℕ) (at : ℕ) {x : ℕ} → Below 128 s → at + 8 ≤ length s → x ≡ value 256 (take 8 (drop at s)) → digits 256 8 x ≡ take 8 (drop at s)
-octets-of s at {x} h fits e =
-    let t : List ℕ = take 8 (drop at s) in
-    let size : length t ≡ 8 = length-take-le 8 (drop at s) (omega (arith, length-drop at s)) in
-    let small : Below 128 t = below-take 128 (drop at s) (below-drop 128 s h at) 8 in
-    ap (digits 256 8) e ∙ ap (λ (n : ℕ). digits 256 n (value 256 t)) (sym size) ∙ digits-value 256 t (λ k. omega (arith, small k))
-
 -- n octets of a list are a number of n octets: seven of them, a number of eight septets
 pub octets-fit : (s : List ℕ) (at n : ℕ) → Below 256 s → at + n ≤ length s → value 256 (take n (drop at s)) < 256 ^ n
 octets-fit s at n h fits =

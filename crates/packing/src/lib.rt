@@ -41,7 +41,10 @@ pub fn pack(service: Service, septets: &[u8], out: &mut [u8]) -> Packed
         return Packed::Refused(Refusal::TooLong);
     }
     let all = septets::septets_sent(service, septets);
-    counted(septets::pack_sent(septets, all, out), septets::length_count(service, septets))
+    counted(
+        septets::pack_sent(septets, all, out),
+        septets::length_count(service, septets),
+    )
 }
 
 // Packs the low seven bits of an array's septets, and stores as many octets as the first n of them take: how many.

@@ -92,7 +92,11 @@ fn unpack_group(octets: &[u8], from: usize, out: &mut [u8], to: usize)
     requires { ⌜ (from + 7 ≤ length (now octets)) × (to + 8 ≤ length (now out)) ⌝ }
     ensures { λ _. ⌜ now (out .exit) ≡ take to (now (out .entry)) ++ digits 128 8 (value 256 (take 7 (drop from (lowOf 8 (now (octets .entry)))))) ++ drop (to + 8) (now (out .entry)) ⌝ }
 {
-    let v = if from + 8 <= octets.len() { join(octets, from, 8) & 0xffffffffffffff } else { join(octets, from, 7) };
+    let v = if from + 8 <= octets.len() {
+        join(octets, from, 8) & 0xffffffffffffff
+    } else {
+        join(octets, from, 7)
+    };
     let x = stretch(v);
     spread(x, out, to, 8);
 }

@@ -77,13 +77,7 @@ pub(crate) fn septets_sent(service: Service, septets: &[u8]) -> usize
     match service {
         Service::ShortMessage => n,
         Service::Broadcast => 93,
-        Service::Ussd => {
-            if adds_cr(septets) {
-                n + 1
-            } else {
-                n
-            }
-        }
+        Service::Ussd => { if adds_cr(septets) { n + 1 } else { n } }
         Service::OldPage => n,
     }
 }

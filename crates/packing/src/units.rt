@@ -1,7 +1,9 @@
 // UCS2 units as octets, high octet first, and the page of 41 units.
 ghost use mathlib.Core.Path.{_≡_};
 ghost use Prim.Native.Nat.{_+_, _*_, _≤_, _<_};
-ghost use lib.ListN.{length, take, getD};
+ghost use mathlib.Core.List.{_++_};
+ghost use lib.ListN.{length, take, drop, getD};
+ghost use Rattle.words.specs.Lists.{laid};
 ghost use Rattle.words.specs.Closing.{withoutClosing};
 ghost use Rattle.stream.specs.Ucs2.{unitOctets, octetUnits, unitPage};
 ghost use Rattle.packing.specs.UnitCalls.{unitsFit};
@@ -104,10 +106,64 @@ pub(crate) fn get_units(octets: &[u8], n: usize, out: &mut [u16]) -> Filled
     if out.len() < n {
         return Filled::Refused(Refusal::NoRoom);
     }
+    if n < 8 {
+        get_few(octets, n, out);
+    } else {
+        get_many(octets, n, out);
+    }
+    Filled::Done(n)
+}
+
+// Lays the first n units over the front of out, one after the other.
+fn get_few(octets: &[u8], n: usize, out: &mut [u16])
+    requires { ⌜ (2 * n ≤ length (now octets)) × (n ≤ length (now out)) ⌝ }
+    ensures { λ _. ⌜ now (out .exit) ≡ laid (take n (octetUnits (now (octets .entry)))) (now (out .entry)) ⌝ }
+{
     let mut i: usize = 0;
     while i < n {
         out[i] = unit_at(octets, i);
         i += 1;
     }
-    Filled::Done(n)
+}
+
+// The same eight at a time, the last eight over again where they overlap.
+fn get_many(octets: &[u8], n: usize, out: &mut [u16])
+    requires { ⌜ (2 * n ≤ length (now octets)) × (n ≤ length (now out)) × (8 ≤ n) ⌝ }
+    ensures { λ _. ⌜ now (out .exit) ≡ laid (take n (octetUnits (now (octets .entry)))) (now (out .entry)) ⌝ }
+{
+    let mut at: usize = 0;
+    while at + 8 <= n {
+        get_eight(octets, at, out);
+        at += 8;
+    }
+    if at < n {
+        get_eight(octets, n - 8, out);
+    }
+}
+
+// Eight units from at on, at the same place of out: all are loaded before the first is stored, so that the compiler turns them together.
+fn get_eight(octets: &[u8], at: usize, out: &mut [u16])
+    requires { ⌜ (2 * (at + 8) ≤ length (now octets)) × (at + 8 ≤ length (now out)) ⌝ }
+    ensures { λ _. ⌜ now (out .exit) ≡ take at (now (out .entry)) ++ take 8 (drop at (octetUnits (now (octets .entry)))) ++ drop (at + 8) (now (out .entry)) ⌝ }
+{
+    let eight = eight_units(octets, at);
+    let mut k: usize = 0;
+    while k < 8 {
+        out[at + k] = eight[k];
+        k += 1;
+    }
+}
+
+// Eight units from at on.
+fn eight_units(octets: &[u8], at: usize) -> [u16; 8]
+    requires { ⌜ 2 * (at + 8) ≤ length (now octets) ⌝ }
+    ensures { λ r. ⌜ r ≡ take 8 (drop at (octetUnits (now (octets .entry)))) ⌝ }
+{
+    let mut eight = [0u16; 8];
+    let mut k: usize = 0;
+    while k < 8 {
+        eight[k] = unit_at(octets, at + k);
+        k += 1;
+    }
+    eight
 }

@@ -4,14 +4,14 @@
 use mathlib.Core.Path.{_≡_, refl, sym, ap, ap₂, _∙_, subst}
 use mathlib.Core.List.{List, [], _∷_, _++_}
 use Prim.Native.Nat.{ℕ, zero, suc, _+_, _-_, _*_, _/_, _%_, _^_, _≤_, _<_}
-use native.Mathlib.Nat.{mod-lt, pow-suc, pow-zero, pow-succ', mul-suc, mul-zero, mul-assoc, add-mul, add-assoc, zero-add, suc-add, div-one, div-div-eq-div-mul, div-lt-iff-lt-mul, div-add-mod', mul-add-div-right, mul-add-mod-self-right, not-suc-le-zero, le-of-suc-le-suc, one-le-pow, mul-le-mul, mul-le-mul-left, mul-comm}
+use native.Mathlib.Nat.{mod-lt, pow-suc, pow-zero, pow-succ', mul-suc, mul-zero, mul-assoc, add-mul, add-assoc, zero-add, suc-add, div-one, div-div-eq-div-mul, div-lt-iff-lt-mul, div-add-mod', mul-add-div-right, mul-add-mod-self-right, not-suc-le-zero, le-of-suc-le-suc, one-le-pow, mul-le-mul-left, mul-comm}
 use native.Mathlib.Omega.{arith}
 use lib.ListN.{length, getD, take, drop}
 use lib.Arith.{digits-lt, digits-div, digits-mod}
 use lib.Dec.{lit<}
 use lib.Pow.{pow-add, shl-exact}
 use lib.Bits.{bitAnd, bitOr, or-shifted-r, and-mask}
-use lib.Seq.{length-take-le, take-add}
+use lib.Seq.{length-take-le, take-add, take-at}
 use native.Mathlib.Numerals.{add-one}
 use Rattle.words.proofs.Below.{Below, below-take}
 use Rattle.stream.specs.Inner.{value, digits}
@@ -83,6 +83,23 @@ digits-append b (suc n) m y x p h =
     (ap₂ (λ (k : ℕ) (ks : List ℕ). k ∷ ks) (ap (λ (d : ℕ). d % b) e ∙ mul-add-mod-self-right (y * b ^ n) b x)
     (ap (λ (d : ℕ). digits b (n + m) (d / b)) e ∙ ap (digits b (n + m)) (mul-add-div-right p (y * b ^ n) x) ∙ digits-append b n m y (x / b) p (div-lt-iff-lt-mul p .1 (rw pow-suc at h))))
 
+-- the digits of a number in two runs
+pub digits-split : (b n m v : ℕ) → digits b (n + m) v ≡ digits b n v ++ digits b m (v / b ^ n)
+unfolding digits
+digits-split b zero m v = rw zero-add (ap (digits b m) (sym (div-one v) ∙ ap (λ (d : ℕ). v / d) (sym (pow-zero b))))
+digits-split b (suc n) m v =
+    rw suc-add
+    (ap (λ (l : List ℕ). v % b ∷ l)
+    (digits-split b n m (v / b) ∙ ap (λ (d : ℕ). digits b n (v / b) ++ digits b m d) (div-div-eq-div-mul v b (b ^ n) ∙ ap (λ (d : ℕ). v / d) (sym (pow-succ' b n)))))
+
+-- the first digits are the same however many are written
+pub digits-front : (b n k v : ℕ) → k ≤ n → take k (digits b n v) ≡ digits b k v
+digits-front b n k v h =
+    let whole : n ≡ k + (n - k) = omega arith in
+    ap (λ (i : ℕ). take k (digits b i v)) whole
+    ∙ ap (take k) (digits-split b k (n - k) v)
+    ∙ take-at (digits b k v) (digits b (n - k) (v / b ^ k)) k (digits-length b k v)
+
 -- pieces of w bits as pieces of u bits, part by part: s fills n pieces, and t goes on after it
 pub recut-append : (w u n m : ℕ) (s t : List ℕ) → Below (2 ^ w) s → w * length s ≡ u * n
     → digits (2 ^ u) (n + m) (value (2 ^ w) (s ++ t)) ≡ digits (2 ^ u) n (value (2 ^ w) s) ++ digits (2 ^ u) m (value (2 ^ w) t)
@@ -108,7 +125,7 @@ value-more b (suc i) [] = omega arith
 value-more b (suc i) (x ∷ l) = ap (λ (d : ℕ). d * b + x) (value-more b i l) ∙ simp (pow-suc, add-mul, mul-assoc, add-assoc)
 
 -- a piece of w bits is put above those that are there
-pub join-piece : (w i x v : ℕ) → x < 2 ^ w → v < 2 ^ (w * i) → w + w * i ≤ 64 → bitOr v (x * 2 ^ (w * i) % 2 ^ 64) ≡ x * (2 ^ w) ^ i + v
+join-piece : (w i x v : ℕ) → x < 2 ^ w → v < 2 ^ (w * i) → w + w * i ≤ 64 → bitOr v (x * 2 ^ (w * i) % 2 ^ 64) ≡ x * (2 ^ w) ^ i + v
 join-piece w i x v hx hv fits =
     ap (bitOr v) (shl-exact w (w * i) 64 hx fits)
     ∙ or-shifted-r x (w * i) v hv
@@ -126,14 +143,6 @@ piece-at u v n i h =
     and-mask (v / 2 ^ (u * i)) u
     ∙ ap (λ (d : ℕ). v / d % 2 ^ u) (pow-mul 2 u i)
     ∙ sym (getD-digits (2 ^ u) n i v h)
-
--- the pieces of one number begin at bit 56 at most
-pub shift-most : (w i : ℕ) → w ≤ 8 → i < 8 → w * i ≤ 56
-shift-most w i hw hi = mul-le-mul hw (le-of-suc-le-suc hi)
-
--- a mask of u bits, by a shift
-pub mask-ones : (u : ℕ) → u ≤ 8 → 1 * 2 ^ u % 2 ^ 64 ≡ 2 ^ u
-mask-ones u h = shl-exact 1 u 64 (lit< tt) (omega arith) ∙ omega arith
 
 -- ---- whole groups
 

@@ -4,14 +4,14 @@
 use mathlib.Core.Path.{_≡_, refl, sym, ap, ap₂, _∙_, subst, fun-ext}
 use mathlib.Core.List.{List, [], _∷_}
 use Prim.Native.Nat.{ℕ, zero, suc, _+_, _*_, _-_, _/_, _%_, _^_, _≤_, _<_}
-use native.Mathlib.Nat.{mul-assoc, zero-div, div-eq-of-lt, mod-eq-of-lt, add-div-left, add-mod-left, mul-add-div-right, mul-add-mod-self-right, div-one, lt-of-lt-of-le, not-suc-le-zero, le-of-suc-le-suc}
+use native.Mathlib.Nat.{mul-assoc, zero-div, div-eq-of-lt, mod-eq-of-lt, add-div-left, add-mod-left, mul-add-div-right, mul-add-mod-self-right, div-one, lt-of-lt-of-le}
 use native.Mathlib.Numerals.{add-one}
 use native.Mathlib.Omega.{arith}
 use native.Mathlib.Decide.{decLe}
-use lib.ListN.{length, getD, take}
+use lib.ListN.{length, getD}
 use lib.Dec.{lit<}
 use lib.Pow.{pow-pos, pow-mono, pow-add, shr-shr, high}
-use Rattle.words.specs.Bits.{bitOf, gather}
+use Rattle.words.specs.Bits.{bitOf}
 use Rattle.words.proofs.Bits.{gather-bits}
 use Rattle.words.proofs.Below.{Below}
 use Rattle.stream.specs.Stream.{streamBit, cut, octetsFor, packed, unpacked}
@@ -95,23 +95,9 @@ pub unpacked-length : (n : ℕ) (o : List ℕ) → length (unpacked n o) ≡ n
 unfolding unpacked
 unpacked-length n o = cut-length (streamBit 8 o) 7 0 n
 
-cut-take : (b : ℕ → ℕ) (w m n k : ℕ) → k ≤ n → take k (cut b w m n) ≡ cut b w m k
-unfolding cut
-cut-take b w m n zero h = refl
-cut-take b w m zero (suc k) h = absurd (not-suc-le-zero h)
-cut-take b w m (suc n) (suc k) h = ap (λ (l : List ℕ). gather b m w ∷ l) (cut-take b w (m + w) n k (le-of-suc-le-suc h))
-
--- the first septets are the same however many are read
-pub unpacked-take : (n k : ℕ) (o : List ℕ) → k ≤ n → take k (unpacked n o) ≡ unpacked k o
-unfolding unpacked
-unpacked-take n k o h = cut-take (streamBit 8 o) 7 0 n k h
-
--- octets have eight bits, and septets seven
+-- octets have eight bits
 pub packed-below : (s : List ℕ) → Below 128 s → Below 256 (packed s)
 packed-below s h = rw (packed-digits s h) (digits-below 256 (octetsFor (length s)) (value 128 s) (lit< tt))
-
-pub unpacked-below : (n : ℕ) (o : List ℕ) → Below 256 o → Below 128 (unpacked n o)
-unpacked-below n o h = rw (unpacked-digits n o h) (digits-below 128 n (value 256 o) (lit< tt))
 
 -- the octets have room for every septet
 room : (s : List ℕ) → Below 128 s → value 128 s < 256 ^ octetsFor (length s)

@@ -1,24 +1,19 @@
 -- The CR that USSD adds and drops: by length and last septet, as the code tests them.
 -- Assumes nothing.
-use mathlib.Core.Path.{_≡_, refl, sym, ap, ap₂, _∙_, subst}
-use mathlib.Core.Bool.{Bool, true, false, _&&_}
-use mathlib.Core.List.{List, [], _∷_, _++_, append-assoc}
-use Prim.Native.Nat.{ℕ, zero, suc, _+_, _-_, _*_, _/_, _%_, _^_, _<_, _≤_}
-use native.Mathlib.Nat.{mod-eq-of-lt}
+use mathlib.Core.Path.{_≡_, sym, ap, _∙_, subst}
+use mathlib.Core.Bool.{Bool, true, false}
+use mathlib.Core.List.{List, [], _∷_, _++_}
+use Prim.Native.Nat.{ℕ, zero, suc, _+_, _-_, _*_, _/_, _%_, _<_, _≤_}
 use native.Mathlib.Decide.{ℕ-discrete, decLe}
 use native.Mathlib.Omega.{arith}
-use borrow.Author.Tests.{eq-eqb, ne-eqb, lt-ltb, le-ltb, ltb-true, eqb-true}
-use lib.Dec.{eqb, ltb, lit<}
-use lib.ListN.{length, getD, take, drop, length-append, take-append-drop}
-use lib.Seq.{length-take-le, drop-cons, drop-length, getD-at, take-at}
-use lib.Pow.{shr-shr, high}
-use Rattle.words.proofs.Tests.{and-left, and-right}
-use Rattle.words.proofs.Below.{Below, below-append, below-take}
+use borrow.Author.Tests.{eq-eqb, ne-eqb, lt-ltb, le-ltb}
+use lib.Dec.{eqb, lit<}
+use lib.ListN.{length, take, length-append}
+use lib.Seq.{getD-at, take-at}
+use Rattle.words.proofs.Below.{Below, below-append}
 use Rattle.stream.specs.Stream.{octetsFor, packed, unpacked}
 use Rattle.stream.specs.UssdPacking.{last, addsCr, withCr, closed, ussdOctets, dropsCr, opened, ussdSeptets}
-use Rattle.stream.specs.Inner.{value, digits, withCount}
-use Rattle.stream.proofs.Numbers.{pow-mul, value-lt, value-one, value-append, getD-digits, recut-append}
-use Rattle.stream.proofs.Stream.{packed-digits, packed-length, unpacked-packed, unpacked-length, unpacked-digits, unpacked-take}
+use Rattle.stream.proofs.Stream.{packed-length, unpacked-packed}
 
 -- ---- adding
 
@@ -29,14 +24,6 @@ closed-added s e = ap (λ (b : Bool). withCr b s) e
 pub closed-same : (s : List ℕ) → addsCr s ≡ false → closed s ≡ s
 unfolding closed
 closed-same s e = ap (λ (b : Bool). withCr b s) e
-
-pub with-cr-length : (b : Bool) (s : List ℕ) → length (withCr b s) ≡ withCount b (length s)
-with-cr-length true s = length-append s (13 ∷ [])
-with-cr-length false s = refl
-
-pub with-cr-append : (b : Bool) (s t : List ℕ) → withCr b (s ++ t) ≡ s ++ withCr b t
-with-cr-append true s t = append-assoc s t (13 ∷ [])
-with-cr-append false s t = refl
 
 one-below : Below 128 (13 ∷ [])
 one-below zero = lit< tt
@@ -85,134 +72,6 @@ module _ (m : ℕ) (s : List ℕ) where
   pub opened-kept : dropsCr m s ≡ false → opened m s ≡ s
   unfolding opened
   opened-kept e = rw (e, opened)
-
--- the last septet of whole groups is the upper seven bits of the last octet
-pub last-septet : (o : List ℕ) → Below 256 o → 0 < length o → length o % 7 ≡ 0 → last (unpacked (8 * length o / 7) o) ≡ getD o (length o - 1) 0 / 2
-unfolding last
-last-septet o h p e =
-    let m : ℕ = length o in
-    let k : ℕ = m - 1 in
-    let n : ℕ = 8 * m / 7 in
-    let x : ℕ = getD o k 0 in
-    let low : List ℕ = take k o in
-    let size : length low ≡ k = length-take-le k o (omega arith) in
-    let next : suc k ≡ m = omega arith in
-    let end : drop k o ≡ x ∷ [] = drop-cons o k 0 (omega arith) ∙ ap (λ (l : List ℕ). x ∷ l) (ap (λ (i : ℕ). drop i o) next ∙ drop-length o) in
-    let whole : value 256 o ≡ x * 2 ^ (8 * k) + value 256 low =
-    ap (value 256) (sym (take-append-drop k o) ∙ ap (λ (l : List ℕ). low ++ l) end)
-    ∙ value-append 256 low (x ∷ [])
-    ∙ ap₂ (λ (y d : ℕ). y * d + value 256 low) (value-one 256 x) (ap (λ (i : ℕ). 256 ^ i) size ∙ sym (pow-mul 2 8 k)) in
-    let small : value 256 low < 2 ^ (8 * k) = subst (λ (d : ℕ). value 256 low < d) (ap (λ (i : ℕ). 256 ^ i) size ∙ sym (pow-mul 2 8 k)) (value-lt 256 low (below-take 256 o h k)) in
-    ap₂ (λ (i : ℕ) (l : List ℕ). getD l (i - 1) 0) (unpacked-length n o) (unpacked-digits n o h)
-    ∙ getD-digits 128 n (n - 1) (value 256 o) (omega arith)
-    ∙ ap (λ (d : ℕ). value 256 o / d % 128) (sym (pow-mul 2 7 (n - 1)) ∙ ap (λ (i : ℕ). 2 ^ i) (place m p e) ∙ refl)
-    ∙ ap (λ (d : ℕ). d % 128) (sym (shr-shr (value 256 o) (8 * k) 1) ∙ ap (λ (d : ℕ). d / 2 ^ (8 * k) / 2) whole ∙ ap (λ (d : ℕ). d / 2) (high x (8 * k) small))
-    ∙ mod-eq-of-lt (omega (arith, h k))
-  where
-    place : (m : ℕ) → 0 < m → m % 7 ≡ 0 → 7 * (8 * m / 7 - 1) ≡ 8 * (m - 1) + 1
-    place m p e =
-        let whole : m ≡ 7 * (m / 7) = omega arith in
-        let groups : 8 * m / 7 ≡ 8 * (m / 7) = omega arith in
-        omega arith
-
--- ---- reading: how many septets are left, and that they are the first ones of the stream
-
-count-cases : (m : ℕ) → 8 * m / 7 ≡ m + m / 7
-count-cases m = omega arith
-
-module _ (o : List ℕ) where
-  pub kept-dropped : dropsCr (length o) (unpacked (8 * length o / 7) o) ≡ true → length (ussdSeptets o) ≡ length o + length o / 7 - 1
-  unfolding ussdSeptets
-  kept-dropped e =
-      let n : ℕ = 8 * length o / 7 in
-      let size : length (unpacked n o) ≡ n = unpacked-length n o in
-      ap length (opened-dropped (length o) (unpacked n o) e) ∙ length-take-le (length (unpacked n o) - 1) (unpacked n o) (omega arith) ∙ omega (arith, count-cases (length o))
-
-  pub kept-all : dropsCr (length o) (unpacked (8 * length o / 7) o) ≡ false → length (ussdSeptets o) ≡ length o + length o / 7
-  unfolding ussdSeptets
-  kept-all e = ap length (opened-kept (length o) (unpacked (8 * length o / 7) o) e) ∙ unpacked-length (8 * length o / 7) o ∙ count-cases (length o)
-
--- ---- packing by whole groups and the rest, the CR with the rest
-
-octets-with : (b : Bool) (n : ℕ) → (7 * (n / 8) ≤ octetsFor (withCount b n)) × (octetsFor (withCount b n) ≤ 7 * (n / 8) + 7)
-unfolding octetsFor
-octets-with true n = (omega arith, omega arith)
-octets-with false n = (omega arith, omega arith)
-
-pub octets-least : (b : Bool) (n : ℕ) → 7 * (n / 8) ≤ octetsFor (withCount b n)
-octets-least b n = octets-with b n .0
-
-pub octets-most : (b : Bool) (n : ℕ) → octetsFor (withCount b n) ≤ 7 * (n / 8) + 7
-octets-most b n = octets-with b n .1
-
-pub packed-with-length : (b : Bool) (s : List ℕ) → length (packed (withCr b s)) ≡ octetsFor (withCount b (length s))
-packed-with-length b s = packed-length (withCr b s) ∙ ap octetsFor (with-cr-length b s)
-
-pub packed-parts : (b : Bool) (s : List ℕ) → Below 128 s
-    → digits 256 (7 * (length s / 8)) (value 128 (take (8 * (length s / 8)) s)) ++ digits 256 (octetsFor (withCount b (length s)) - 7 * (length s / 8)) (value 128 (withCr b (drop (8 * (length s / 8)) s)))
-    ≡ packed (withCr b s)
-packed-parts b s h =
-    let g : ℕ = length s / 8 in
-    let n : ℕ = octetsFor (withCount b (length s)) in
-    let size : 7 * length (take (8 * g) s) ≡ 8 * (7 * g) = ap (λ (k : ℕ). 7 * k) (length-take-le (8 * g) s (omega arith)) ∙ omega arith in
-    let whole : 7 * g + (n - 7 * g) ≡ n = omega (arith, octets-least b (length s)) in
-    sym (recut-append 7 8 (7 * g) (n - 7 * g) (take (8 * g) s) (withCr b (drop (8 * g) s)) (below-take 128 s h (8 * g)) size)
-    ∙ ap₂ (λ (k : ℕ) (t : List ℕ). digits 256 k (value 128 t)) (whole ∙ ap octetsFor (sym (with-cr-length b s)))
-    (sym (with-cr-append b (take (8 * g) s) (drop (8 * g) s)) ∙ ap (withCr b) (take-append-drop (8 * g) s))
-    ∙ sym (packed-digits (withCr b s) (with-cr-below b s h))
-
--- ---- the septets of a string of octets
-
-drops-when : (m : ℕ) (s : List ℕ) → dropsCr m s ≡ true → (0 < m) × (m % 7 ≡ 0) × (last s ≡ 13)
-unfolding dropsCr
-drops-when m s e =
-    let front : (ltb 0 m && eqb (m % 7) 0) ≡ true = and-left (ltb 0 m && eqb (m % 7) 0) (eqb (last s) 13) e in
-    (ltb-true 0 m (and-left (ltb 0 m) (eqb (m % 7) 0) front), eqb-true (m % 7) 0 (and-right (ltb 0 m) (eqb (m % 7) 0) front), eqb-true (last s) 13 (and-right (ltb 0 m && eqb (m % 7) 0) (eqb (last s) 13) e))
-
-octets-whole : (m : ℕ) → 0 < m → m % 7 ≡ 0 → m ≡ octetsFor (m + m / 7 - 1)
-unfolding octetsFor
-octets-whole m p e =
-    let whole : m ≡ 7 * (m / 7) = omega arith in
-    omega arith
-
-octets-back : (m : ℕ) → m ≡ octetsFor (m + m / 7)
-unfolding octetsFor
-octets-back m =
-    let parts : m ≡ 7 * (m / 7) + m % 7 = omega arith in
-    let over : m % 7 < 7 = omega arith in
-    omega arith
-
-module _ (o : List ℕ) where
-  -- as many octets as the septets that are left take
-  pub kept-octets : length o ≡ octetsFor (length (ussdSeptets o))
-  kept-octets = go (dropsCr (length o) (unpacked (8 * length o / 7) o)) refl
-    where
-      go : (b : Bool) → dropsCr (length o) (unpacked (8 * length o / 7) o) ≡ b → length o ≡ octetsFor (length (ussdSeptets o))
-      go true e =
-          let w = drops-when (length o) (unpacked (8 * length o / 7) o) e in
-          octets-whole (length o) (w .0) (w .1) ∙ ap octetsFor (sym (kept-dropped o e))
-      go false e = octets-back (length o) ∙ ap octetsFor (sym (kept-all o e))
-
-  -- the septets that are left are the first of the stream
-  pub kept-septets : unpacked (length (ussdSeptets o)) o ≡ ussdSeptets o
-  unfolding ussdSeptets
-  kept-septets = go (dropsCr m all) refl
-    where
-      m : ℕ
-      m = length o
-
-      n : ℕ
-      n = 8 * m / 7
-
-      all : List ℕ
-      all = unpacked n o
-
-      go : (b : Bool) → dropsCr m all ≡ b → unpacked (length (opened m all)) o ≡ opened m all
-      go true e =
-          let size : length (take (length all - 1) all) ≡ length all - 1 = length-take-le (length all - 1) all (omega arith) in
-          let most : length all - 1 ≤ n = omega (arith, unpacked-length n o) in
-          rw (opened-dropped m all e) (ap (λ (k : ℕ). unpacked k o) size ∙ sym (unpacked-take n (length all - 1) o most))
-      go false e = rw (opened-kept m all e) (ap (λ (k : ℕ). unpacked k o) (unpacked-length n o))
 
 -- ---- reading back what was packed
 

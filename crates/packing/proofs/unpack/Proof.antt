@@ -4,7 +4,7 @@ use mathlib.Core.Path.{_≡_, refl, sym, ap, _∙_, subst}
 use mathlib.Core.Bool.{true}
 use mathlib.Core.List.{List}
 use native.Mathlib.Omega.{arith}
-use lib.ListN.{length, take}
+use lib.ListN.{length, take, replicate, length-replicate}
 use Rattle.words.specs.declared.Filled.the-variants.{Refused}
 use Rattle.words.specs.Judging.{verdict}
 use Rattle.packing.specs.SeptetCalls.{septetsFit, septetsOf, unpackRules, unpackAnswers, unpackLeaves}
@@ -13,6 +13,13 @@ use Rattle.packing.proofs.Calls.{unpack-passed, all-most, kept-most, ar
 use borrow.Author.Needs.{needs}
 use Rattle.packing.proofs.unpack.Statement.{statement}
 use Rattle.packing.proofs.unpack.Tie as tie
+
+-- the array before
+abbrev zeros : List ℕ
+zeros = replicate 184 0
+
+zeros-length : length zeros ≡ 184
+zeros-length = length-replicate {A = ℕ} 184 0
 
 slice-aggregate-unpack-whole : tie.Need-slice-aggregate-unpack-whole
 slice-aggregate-unpack-whole c = search needs
@@ -29,16 +36,17 @@ fit : (c : tie.After-n) → let a = c .before .before .before .before .before .b
 fit c =
     let call = c .before .before .before in
     let a = call .before .before .before .before .args in
-    array-done (a .service) (a .octets .now) (a .count) (c .n .given .0 .0) (sym (c .n .given .1) ∙ call .unpack-whole .ensures .0)
+    array-done (a .service) (a .octets .now) (a .count) zeros zeros-length (c .n .given .0 .0) (sym (c .n .given .1) ∙ call .unpack-whole .ensures .0)
 
 store-requires : tie.Need-store-requires
 store-requires c κs =
     let known = c .before .before .before in
     let call = known .before .before .before in
     let a = call .before .before .before .before .args in
-    let f = fit known in
-    (omega (arith, f .1, kept-most (a .service) (a .octets .now) (a .count), all-most (a .service) (a .octets .now) (a .count) (f .0)),
-    array-length (a .service) (a .octets .now) (a .count) (call .unpack-whole .last .1 .1 .1 .0) (f .0) (call .unpack-whole .ensures .1))
+    let f = fit known in (
+      omega (arith, f .1, kept-most (a .service) (a .octets .now) (a .count), all-most (a .service) (a .octets .now) (a .count) (f .0)),
+      array-length (a .service) (a .octets .now) (a .count) zeros zeros-length (call .unpack-whole .last .1 .1 .1 .0) (f .0) (call .unpack-whole .ensures .1),
+    )
 
 enum-known-refusal : tie.Need-enum-known-refusal
 enum-known-refusal c = search needs
@@ -55,7 +63,7 @@ returns c =
     let f = fit known in
     let array : List ℕ = call .unpack-whole .last .1 .1 .1 .0 in
     let front : take (known .n .given .0 .0) array ≡ septetsOf (a .service) (a .count) (a .octets .now) =
-    ap (λ (n : ℕ). take n array) (f .1) ∙ array-front (a .service) (a .octets .now) (a .count) array (f .0) (call .unpack-whole .ensures .1) in
+    ap (λ (n : ℕ). take n array) (f .1) ∙ array-front (a .service) (a .octets .now) (a .count) zeros zeros-length array (f .0) (call .unpack-whole .ensures .1) in
     unpack-passed (a .service) (a .octets .now) (a .out .now) (a .count) (f .0)
     (subst (λ (s : List ℕ). Gives s (a .out .now) (stored .store .result) (stored .store .last .1 .1 .0)) front (stored .store .ensures))
 
@@ -65,7 +73,7 @@ returns-2 c =
     let known = c .before in
     let call = known .before .before .before in
     let a = call .before .before .before .before .args in
-    let f = array-refused (a .service) (a .octets .now) (a .count) (known .refusal .given .0 .0) (sym (known .refusal .given .1) ∙ call .unpack-whole .ensures .0) in
+    let f = array-refused (a .service) (a .octets .now) (a .count) zeros zeros-length (known .refusal .given .0 .0) (sym (known .refusal .given .1) ∙ call .unpack-whole .ensures .0) in
     simp (f .0) (ap Refused (f .1), refl)
 
 pub unpack-spec : {M : Type 1} → statement M

@@ -57,9 +57,10 @@ store-requires c κs =
     let cut = counted .before .before .before in
     let a = cut .before .before .before .before .before .before .args in
     let n : ℕ = 7 * ((a .all + 7) / 8) in
-    let v : ℕ = value 128 (take (8 * ((a .all + 7) / 8)) (lowBits (cut .before .before .before .lay .result))) in
-    (omega (arith, counted .octets-for .ensures, within (a .all)),
-    ap length (cut .recut .ensures) ∙ laid-length (digits 256 n v) (replicate 184 0) (omega (arith, digits-length 256 n v, length-replicate {A = ℕ} 184 0)) ∙ length-replicate {A = ℕ} 184 0)
+    let v : ℕ = value 128 (take (8 * ((a .all + 7) / 8)) (lowBits (cut .before .before .before .lay .result))) in (
+      omega (arith, counted .octets-for .ensures, within (a .all)),
+      ap length (cut .recut .ensures) ∙ laid-length (digits 256 n v) (replicate 184 0) (omega (arith, digits-length 256 n v, length-replicate {A = ℕ} 184 0)) ∙ length-replicate {A = ℕ} 184 0,
+    )
 
 same-length : tie.Need-same-length
 same-length c = search needs

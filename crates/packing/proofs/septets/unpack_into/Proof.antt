@@ -12,10 +12,9 @@ use Rattle.words.proofs.Laid.{laid-then}
 use Rattle.words.proofs.Below.{Below, below-take}
 use Rattle.stream.specs.Stream.{octetsFor, unpacked}
 use Rattle.stream.specs.Inner.{value, digits}
-use Rattle.stream.proofs.Numbers.{pow-mul, digits-length, recut-append}
+use Rattle.stream.proofs.Numbers.{pow-mul, digits-length, recut-append, digits-front}
 use Rattle.stream.proofs.Stream.{unpacked-digits}
 use Rattle.packing.proofs.Folds.{octets-fit, septets-apart}
-use Rattle.packing.proofs.Ends.{digits-front}
 use Rattle.packing.proofs.LowBits.{low-same}
 use borrow.Author.Needs.{needs}
 use Rattle.packing.proofs.septets.unpack_into.Statement.{statement}

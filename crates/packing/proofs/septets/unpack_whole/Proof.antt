@@ -78,9 +78,10 @@ returns-3 c =
     let xs : List ℕ = unpacked n o in
     let room : length (allSeptets (a .service) (a .count) o) ≤ length (a .out .now) = omega (arith, size held) in
     let front : take n (into .unpack-into .last .1 .1 .0) ≡ xs = ap (take n) (into .unpack-into .ensures) ∙ take-at xs (drop (length xs) (a .out .now)) n (unpacked-length n o) in
-    simp (fit (held .before), le-ltb _ _ room)
-    (ap Done (c .text-length .ensures ∙ ap (keptCount (a .service)) (front ∙ all held) ∙ kept-count (a .service) (a .count) o),
-    into .unpack-into .ensures ∙ ap (λ (l : List ℕ). laid l (a .out .now)) (all held))
+    simp (fit (held .before), le-ltb _ _ room) (
+      ap Done (c .text-length .ensures ∙ ap (keptCount (a .service)) (front ∙ all held) ∙ kept-count (a .service) (a .count) o),
+      into .unpack-into .ensures ∙ ap (λ (l : List ℕ). laid l (a .out .now)) (all held),
+    )
 
 pub unpack-whole-spec : {M : Type 1} → statement M
 unpack-whole-spec =

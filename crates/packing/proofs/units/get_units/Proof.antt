@@ -1,85 +1,62 @@
--- The first n units are laid over the front of out, one after the other.
-use Prim.Native.Nat.{ℕ, _≤_, _-_}
+-- The room is judged, and then the units are laid over the front of out, few or many.
+use Prim.Native.Nat.{ℕ}
 use mathlib.Core.Path.{_≡_, sym}
 use mathlib.Core.List.{List}
 use native.Mathlib.Omega.{arith}
-use lib.ListN.{length, take, drop, drop-of-length-le}
+use lib.ListN.{length, take}
 use lib.Seq.{length-take-le}
-use Rattle.words.proofs.Laid.{Laying, lay-none, lay-front, lay-end}
+use Rattle.words.specs.Lists.{laid}
+use Rattle.words.specs.declared.Filled.the-variants.{Done}
 use Rattle.stream.specs.Ucs2.{octetUnits}
 use Rattle.stream.proofs.UnitOctets.{octet-units-length}
-use Rattle.packing.proofs.Given.{given-short, given-done}
+use Rattle.packing.proofs.Given.{Gives, given-short, given-done}
 use borrow.Author.Needs.{needs}
 use Rattle.packing.proofs.units.get_units.Statement.{statement}
 use Rattle.packing.proofs.units.get_units.Tie as tie
 
-abbrev Inv-loop : tie.InvT-loop
-Inv-loop octets n out₀ i₀ out i = (i ≤ n) × Laying out₀ (take n (octetUnits octets)) (drop i (take n (octetUnits octets))) i out
-
-abbrev μ-loop : tie.MeasureT-loop
-μ-loop octets n out₀ i₀ out i = n - i
-
 -- there are n units
-within : (c : tie.Start Inv-loop μ-loop) → c .args .n ≤ length (octetUnits (c .args .octets .now))
-within c = omega (arith, octet-units-length (c .args .octets .now))
+size : (c : tie.Start) → length (take (c .args .n) (octetUnits (c .args .octets .now))) ≡ c .args .n
+size c = length-take-le (c .args .n) (octetUnits (c .args .octets .now)) (omega (arith, octet-units-length (c .args .octets .now), c .pre))
 
-returns : tie.Need-returns Inv-loop μ-loop
+returns : tie.Need-returns
 returns c =
     let start = c .before .before .before in
-    let us : List ℕ = octetUnits (start .args .octets .now) in
-    given-short (take (start .args .n) us) (start .args .out .now) (omega (arith, length-take-le (start .args .n) us (within start)))
+    given-short (take (start .args .n) (octetUnits (start .args .octets .now))) (start .args .out .now) (omega (arith, size start))
 
-loop-holds : tie.Need-loop-holds Inv-loop μ-loop
-loop-holds c =
-    let a = c .before .before .before .args in
-    (search needs, lay-none (a .out .now) (take (a .n) (octetUnits (a .octets .now))))
+get-few-requires : tie.Need-get-few-requires
+get-few-requires c κs = search needs
 
-unit-at-requires : tie.Need-unit-at-requires Inv-loop μ-loop
-unit-at-requires c κs = search needs
+get-many-requires : tie.Need-get-many-requires
+get-many-requires c κs = search needs
 
-mul-out : tie.Need-mul-out Inv-loop μ-loop
-mul-out c = search needs
+-- where there is room
+done : (c : tie.Else1) (left : List ℕ) → let a = c .before .before .before .args in
+    left ≡ laid (take (a .n) (octetUnits (a .octets .now))) (a .out .now) → Gives (take (a .n) (octetUnits (a .octets .now))) (a .out .now) (Done (a .n)) left
+done c left e =
+    let start = c .before .before .before in
+    let a = start .args in
+    given-done (take (a .n) (octetUnits (a .octets .now))) (a .out .now) (sym (size start)) (omega (arith, size start)) e
 
-slice-write-out : tie.Need-slice-write-out Inv-loop μ-loop
-slice-write-out c = omega (arith, c .before .before .loop .inv .1 .long)
-
-add-i : tie.Need-add-i Inv-loop μ-loop
-add-i c = search needs
-
-loop-less : tie.Need-loop-less Inv-loop μ-loop
-loop-less c = search needs
-
-loop-again : tie.Need-loop-again Inv-loop μ-loop
-loop-again c =
-    let at = c .before .before in
-    let start = at .before .before .before .before in
-    (search needs, lay-front (octetUnits (start .args .octets .now)) (within start) (search needs) (at .loop .inv .1) (search needs) (c .unit-at .ensures))
-
-same-length : tie.Need-same-length Inv-loop μ-loop
+same-length : tie.Need-same-length
 same-length c = search needs
 
-returns-2 : tie.Need-returns-2 Inv-loop μ-loop
-returns-2 c =
-    let at = c .before in
-    let start = at .before .before .before .before in
-    let a = start .args in
-    let xs : List ℕ = take (a .n) (octetUnits (a .octets .now)) in
-    let size : length xs ≡ a .n = length-take-le (a .n) (octetUnits (a .octets .now)) (within start) in
-    given-done xs (a .out .now) (sym size) (omega arith) (lay-end (at .loop .inv .1) (drop-of-length-le xs {i = at .loop .i} (omega arith)))
+returns-2 : tie.Need-returns-2
+returns-2 c = let few = c .before .before in done (few .before .before .before) (few .get-few .last .1 .1 .0) (few .get-few .ensures)
+
+same-length-2 : tie.Need-same-length-2
+same-length-2 c = search needs
+
+returns-3 : tie.Need-returns-3
+returns-3 c = let many = c .before .before in done (many .before .before .before) (many .get-many .last .1 .1 .0) (many .get-many .ensures)
 
 pub get-units-spec : {M : Type 1} → statement M
 get-units-spec =
     tie.close
     (tie.spec
-    Inv-loop
-    μ-loop
     returns
-    loop-holds
-    unit-at-requires
-    mul-out
-    slice-write-out
-    add-i
-    loop-less
-    loop-again
+    get-few-requires
+    get-many-requires
     same-length
-    returns-2)
+    returns-2
+    same-length-2
+    returns-3)
