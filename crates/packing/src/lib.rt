@@ -33,7 +33,7 @@ pub fn pack(service: Service, septets: &[u8], out: &mut [u8]) -> Packed
         return Packed::Refused(Refusal::Unwritable);
     }
     let n = septets.len();
-    let high = septets::first_high(septets);
+    let high = words::first_wide(septets);
     if high < n {
         return Packed::Refused(Refusal::NoSeptet { septet: high });
     }

@@ -21,36 +21,6 @@ use words::Filled;
 use words::Refusal;
 use words::Service;
 
-// The bits that any septet has: one test of the result judges them all. The loop vectorises, sixteen septets at a time.
-fn all_bits(septets: &[u8]) -> u8
-    ensures { λ r. ⌜ ((k : ℕ) → getD (now (septets .entry)) k 0 ≤ r) ⌝ }
-{
-    let mut bits: u8 = 0;
-    let mut i: usize = 0;
-    while i < septets.len() {
-        bits = bits | septets[i];
-        i += 1;
-    }
-    bits
-}
-
-// The place of the first septet of 128 or more, or the length where there is none.
-pub(crate) fn first_high(septets: &[u8]) -> usize
-    ensures { λ r. ⌜ r ≡ firstPlace (leb 128) (now (septets .entry)) ⌝ }
-{
-    if all_bits(septets) < 128 {
-        return septets.len();
-    }
-    let mut i: usize = 0;
-    while i < septets.len() {
-        if 128 <= septets[i] {
-            return i;
-        }
-        i += 1;
-    }
-    i
-}
-
 // Whether USSD adds a CR.
 pub(crate) fn adds_cr(septets: &[u8]) -> bool
     ensures { λ r. ⌜ r ≡ addsCr (now (septets .entry)) ⌝ }

@@ -38,21 +38,21 @@ new : (c : tie.Else1) → isOldPage (c .before .before .before .before .args .se
 new c = sym (c .before .is-old-page .ensures) ∙ c .if1 .left
 
 low : (c : tie.Else2) → let s = c .before .before .before .before .before .before .args .septets .now in length s ≤ firstPlace (leb 128) s
-low c = omega (arith, c .before .first-high .ensures)
+low c = omega (arith, c .before .first-wide .ensures)
 
 below : (c : tie.Else2) → Below 128 (c .before .before .before .before .before .before .args .septets .now)
 below c = none-high (c .before .before .before .before .before .before .args .septets .now) (low c)
 
-first-high-requires : tie.Need-first-high-requires
-first-high-requires c κs = search needs
+first-wide-requires : tie.Need-first-wide-requires
+first-wide-requires c κs = search needs
 
 returns-2 : tie.Need-returns-2
 unfolding packRules packAnswers packLeaves verdict
 returns-2 c =
     let at = c .before .before in
     let s : List ℕ = at .before .before .before .before .args .septets .now in
-    let high : firstPlace (leb 128) s < length s = omega (arith, c .before .first-high .ensures) in
-    simp (new at, lt-ltb _ _ high) (ap (λ (k : ℕ). Refused (NoSeptet k)) (c .before .first-high .ensures), refl)
+    let high : firstPlace (leb 128) s < length s = omega (arith, c .before .first-wide .ensures) in
+    simp (new at, lt-ltb _ _ high) (ap (λ (k : ℕ). Refused (NoSeptet k)) (c .before .first-wide .ensures), refl)
 
 most-septets-requires : tie.Need-most-septets-requires
 most-septets-requires c κs = search needs
@@ -112,7 +112,7 @@ pack-spec =
     (tie.spec
     is-old-page-requires
     returns
-    first-high-requires
+    first-wide-requires
     returns-2
     most-septets-requires
     returns-3
