@@ -115,7 +115,7 @@ unfolding readAs
 own-reads true s n h = own-old s n h
 own-reads false s n h = own-text s n h
 
--- so there are at least as many units as of them
+-- so the text has at least as many units
 pub own-fewer : (old : Bool) (s : List ℕ) (n : ℕ) → n ≤ length s → OwnFrom s 0 n → n ≤ length (readAs old s)
 own-fewer old s n within own =
     omega (arith, ap length (own-reads old s n own), length-append (take n s) (readAs old (drop n s)), length-take-le n s within)
