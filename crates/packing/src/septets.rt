@@ -1,11 +1,10 @@
-// The packings of septets: the test of each septet, what a service adds after a text, and how much it drops on reading.
+// The packings of septets: what a service adds after a text, and how much it drops on reading.
 ghost use mathlib.Core.Path.{_≡_};
 ghost use Prim.Native.Nat.{ℕ, _≤_, _<_};
 ghost use mathlib.Core.Bool.{true};
-ghost use lib.Dec.{leb};
 ghost use lib.ListN.{length, getD, take, replicate};
 ghost use Rattle.words.specs.Sizes.{mostSeptets};
-ghost use Rattle.words.specs.Lists.{laid, firstPlace};
+ghost use Rattle.words.specs.Lists.{laid};
 ghost use Rattle.words.specs.Closing.{withoutClosing};
 ghost use Rattle.stream.specs.Stream.{octetsFor, packed, unpacked};
 ghost use Rattle.stream.specs.UssdPacking.{addsCr};
