@@ -76,13 +76,13 @@ fn odd_eight_units(text: &[u16], n: usize) -> u16
 }
 
 // How many units at the front of a text are their own codes: all of them, or as many eights as were found to be. None of a text of
-// eight or fewer, which would pay for the test and for the table where one is odd. Sixteen at a time, and the end eight at a time, the last
-// eight over again where they overlap: a loop over fewer would not vectorise.
+// fewer than eight. Sixteen at a time, and the end eight at a time, the last eight over again where they overlap: a loop over fewer would
+// go unit by unit.
 pub(crate) fn own_front(text: &[u16]) -> usize
     ensures { λ r. ⌜ (r ≤ length (now (text .entry))) × OwnFrom (now (text .entry)) 0 r ⌝ }
 {
     let len = text.len();
-    if len < 9 {
+    if len < 8 {
         return 0;
     }
     let mut n: usize = 0;
@@ -151,13 +151,13 @@ fn own_eights(septets: &[u8], from: usize) -> usize
     len
 }
 
-// How many septets at the front are their own units: 32 at a time, then eight, or all of them. None of eight or fewer septets, which would
-// pay for the test and for the table where one is odd.
+// How many septets at the front are their own units: 32 at a time, then eight, or all of them. None of fewer than
+// eight septets.
 pub(crate) fn own_septets(septets: &[u8]) -> usize
     ensures { λ r. ⌜ (r ≤ length (now (septets .entry))) × OwnFrom (now (septets .entry)) 0 r ⌝ }
 {
     let len = septets.len();
-    if len < 9 {
+    if len < 8 {
         return 0;
     }
     let mut n: usize = 0;

@@ -69,9 +69,6 @@ returns-4 c = c .before .before .before .before .loop .inv
 add-n-2 : tie.Need-add-n-2 Inv-loop μ-loop
 add-n-2 c = search needs
 
-sub-odd-eight-units : tie.Need-sub-odd-eight-units Inv-loop μ-loop
-sub-odd-eight-units c = search needs
-
 odd-eight-units-requires-3 : tie.Need-odd-eight-units-requires-3 Inv-loop μ-loop
 odd-eight-units-requires-3 c κs = search needs
 
@@ -130,7 +127,6 @@ own-front-spec =
     odd-eight-units-requires-2
     returns-4
     add-n-2
-    sub-odd-eight-units
     odd-eight-units-requires-3
     returns-5
     returns-6
