@@ -4,24 +4,22 @@
 use mathlib.Core.Path.{_≡_, refl, ap, ap₂, _∙_, sym, subst}
 use mathlib.Core.Bool.{Bool, true, false, cond}
 use mathlib.Core.List.{List, [], _∷_, _++_}
-use Prim.Native.Nat.{ℕ, zero, suc, _+_, _-_, _*_, _/_, _%_, _≤_, _<_}
-use native.Mathlib.Decide.{decLe}
+use Prim.Native.Nat.{ℕ, suc, _+_, _-_, _%_, _≤_, _<_}
 use native.Mathlib.Omega.{arith}
-use lib.Dec.{T, leb, eqb, lit≤}
+use lib.Dec.{T, lit≤}
 use lib.ListN.{length, getD, take, drop, set, replicate, length-append, take-append-drop}
-use lib.Seq.{take-append-le, take-all, length-take-le, getD-take, set-split, append-snoc, take-append-seam, drop-append-add}
-use borrow.Author.Tests.{lt-ltb, le-ltb, leb-true}
+use lib.Seq.{take-all, length-take-le, getD-take, set-split, append-snoc, take-append-seam, drop-append-add}
+use borrow.Author.Tests.{lt-ltb, le-ltb}
 use Rattle.words.specs.declared.Service.{Service}
 use Rattle.words.specs.declared.Service.the-variants.{ShortMessage, Broadcast, Ussd, OldPage}
 use Rattle.words.specs.declared.Refusal.{Refusal}
-use Rattle.words.specs.declared.Refusal.the-variants.{WrongLength, Unlisted, TooLong, Unwritable}
+use Rattle.words.specs.declared.Refusal.the-variants.{Unlisted, TooLong, Unwritable}
 use Rattle.words.specs.declared.Filled.the-variants.{Done, Refused}
 use Rattle.words.specs.Sizes.{mostSeptets, isOldPage}
 use Rattle.words.specs.Lists.{laid}
 use Rattle.words.specs.Judging.{when, Verdict, refused, accepted, verdict, settle}
 use Rattle.words.proofs.Below.{Below}
-use Rattle.words.proofs.Laid.{Laying, lay-left, lay-one, laid-length}
-use Rattle.words.proofs.Tests.{and-left}
+use Rattle.words.proofs.Laid.{Laying, lay-left, lay-one}
 use Rattle.alphabet.specs.declared.Encoded.{Encoded}
 use Rattle.alphabet.specs.Writing.{septetsOf as septetsOf′, firstUnlisted, listedFront, encodedAs, encodedLeaves}
 use Rattle.alphabet.specs.Reading.{textOf, oldTextOf, readAs, showRules, showAnswers, showLeaves}
@@ -29,13 +27,13 @@ use Rattle.alphabet.proofs.Theorems.{septets-below}
 use Rattle.stream.specs.Stream.{octetsFor, packed}
 use Rattle.stream.specs.UssdPacking.{last, addsCr, withCr, closed, ussdOctets}
 use Rattle.stream.specs.Pages.{page, pageOctets}
-use Rattle.stream.proofs.Stream.{packed-length, unpacked-length}
-use Rattle.stream.proofs.Pages.{page-length, page-below}
+use Rattle.stream.proofs.Stream.{packed-length}
+use Rattle.stream.proofs.Pages.{replicate-drop, page-length, page-below}
 use Rattle.stream.proofs.Ussd.{with-cr-below}
 use Rattle.packing.specs.SeptetCalls.{septetsFit, septetsOf, octetsOf, countOf}
-use Rattle.packing.specs.ArrayCalls.{lowBits, arrayRules, arrayAnswers, arrayLeaves, allSeptets, allRules, allAnswers, allLeaves}
-use Rattle.packing.proofs.Calls.{fit-ussd}
-use Rattle.packing.proofs.Arrays.{kept-front, array-packed}
+use Rattle.packing.specs.ArrayCalls.{lowBits, arrayRules, arrayAnswers, arrayLeaves, allAnswers, allLeaves}
+use Rattle.packing.proofs.Calls.{all-most, kept-most, array-done, array-refused, array-length, array-front}
+use Rattle.packing.proofs.Arrays.{array-packed}
 use Rattle.message.specs.declared.MessageWritten.the-variants as written
 use Rattle.message.specs.MessageRead.{shownSeptets, textLengthRules, textReads, textReadLeaves}
 use Rattle.message.specs.MessageWritten.{textSizeRules, textWrites, textWriteLeaves}
@@ -44,78 +42,26 @@ use Rattle.message.proofs.Steps.{write-agree, leaves-agree}
 
 -- ---- reading
 
--- all the septets fit the array too
-all-most : (service : Service) (count : ℕ) (o : List ℕ) → septetsFit service (length o) count ≡ true → length (allSeptets service count o) ≤ 184
-unfolding octetsFor
-all-most ShortMessage count o e = omega (arith, unpacked-length count o, leb-true count 160 (and-left (leb count 160) (eqb (length o) (octetsFor count)) e))
-all-most Broadcast count o e = omega (arith, unpacked-length 93 o)
-all-most Ussd count o e = omega (arith, unpacked-length (8 * length o / 7) o, fit-ussd (length o) count e)
-all-most OldPage count o e = omega (arith, unpacked-length 93 o)
-
--- what is kept is no more than all
-kept-most : (service : Service) (count : ℕ) (o : List ℕ) → length (septetsOf service count o) ≤ length (allSeptets service count o)
-kept-most service count o =
-    elim (decLe (length (septetsOf service count o)) (length (allSeptets service count o))) [
-      | yes h ↦ h
-      | no h ↦ let e = ap length (sym (kept-front service count o) ∙ take-all (length (septetsOf service count o)) (allSeptets service count o) (omega arith)) in omega arith
-    ]
-
 -- what unpacking into the array tells: the octets do not fit, or the septets that are kept stand at its front
 module _ (service : Service) (count : ℕ) (o array : List ℕ) (n : length array ≡ 184) where
-  unfit-answers : septetsFit service (length o) count ≡ false → allAnswers service o count (length array) ≡ Refused WrongLength
-  unfolding allAnswers allRules verdict
-  unfit-answers e = simp e
-
-  fit-answers : septetsFit service (length o) count ≡ true → allAnswers service o count (length array) ≡ Done (length (septetsOf service count o))
-  unfolding allAnswers allRules verdict
-  fit-answers e = let room : length (allSeptets service count o) ≤ length array = omega (arith, all-most service count o e) in simp (e, le-ltb _ _ room)
-
-  fit-leaves : septetsFit service (length o) count ≡ true → allLeaves service o count array ≡ laid (allSeptets service count o) array
-  unfolding allLeaves allRules verdict
-  fit-leaves e = let room : length (allSeptets service count o) ≤ length array = omega (arith, all-most service count o e) in simp (e, le-ltb _ _ room)
-
-  by-fit : {A : Type 0} → (septetsFit service (length o) count ≡ true → A) → (septetsFit service (length o) count ≡ false → A) → A
-  by-fit {A} f g = go (septetsFit service (length o) count) refl
-    where
-      go : (b : Bool) → septetsFit service (length o) count ≡ b → A
-      go true e = f e
-      go false e = g e
-
   pub unpacked-fits : (k : ℕ) → Done k ≡ allAnswers service o count (length array) → septetsFit service (length o) count ≡ true
-  unpacked-fits k e = by-fit (λ (f : septetsFit service (length o) count ≡ true). f) (λ (g : septetsFit service (length o) count ≡ false). absurd (done-or-refused k (e ∙ unfit-answers g)))
-    where
-      done-or-refused : (k : ℕ) → Done k ≡ Refused WrongLength → ⊥
-      done-or-refused k e = let z : _≡_ {A = ℕ} 0 1 = cc in omega arith
-
-  unpacked-count : (k : ℕ) → Done k ≡ allAnswers service o count (length array) → k ≡ length (septetsOf service count o)
-  unpacked-count k e = let d : Done k ≡ Done (length (septetsOf service count o)) = e ∙ fit-answers (unpacked-fits k e) in cc
+  unpacked-fits k e = array-done service o count array n k e .0
 
   pub unpacked-run : (k : ℕ) (left : List ℕ) → Done k ≡ allAnswers service o count (length array) → left ≡ allLeaves service o count array → take k left ≡ septetsOf service count o
-  unfolding laid
   unpacked-run k left e l =
-      let s : List ℕ = allSeptets service count o in
-      ap₂ take (unpacked-count k e) (l ∙ fit-leaves (unpacked-fits k e))
-      ∙ take-append-le (length (septetsOf service count o)) s _ (kept-most service count o)
-      ∙ kept-front service count o
+      let d = array-done service o count array n k e in
+      ap (λ (m : ℕ). take m left) (d .1) ∙ array-front service o count array n left (d .0) l
 
   pub unpacked-room : (k : ℕ) (left : List ℕ) → Done k ≡ allAnswers service o count (length array) → left ≡ allLeaves service o count array → k ≤ length left
   unpacked-room k left e l =
-      let f = unpacked-fits k e in
-      let m = all-most service count o f in
-      let long : length left ≡ length array = ap length (l ∙ fit-leaves f) ∙ laid-length (allSeptets service count o) array (omega arith) in
-      omega (arith, unpacked-count k e, kept-most service count o)
+      let d = array-done service o count array n k e in
+      omega (arith, d .1, array-length service o count array n left (d .0) l, kept-most service o count, all-most service o count (d .0))
 
   -- octets that do not fit are refused by the reader of 7-bit text
   pub unpacked-refused : (q : Refusal) (out : List ℕ) → Refused q ≡ allAnswers service o count (length array)
       → (Refused q ≡ textReads service false count o (length out)) × (out ≡ textReadLeaves service false count o out)
   unfolding textReads textReadLeaves textLengthRules verdict
-  unpacked-refused q out e =
-      by-fit
-      (λ (f : septetsFit service (length o) count ≡ true). absurd (refused-or-done q (e ∙ fit-answers f)))
-      (λ (g : septetsFit service (length o) count ≡ false). simp g (e ∙ unfit-answers g, refl))
-    where
-      refused-or-done : (q : Refusal) → Refused q ≡ Done (length (septetsOf service count o)) → ⊥
-      refused-or-done q e = let z : _≡_ {A = ℕ} 0 1 = cc in omega arith
+  unpacked-refused q out e = let r = array-refused service o count array n q e in simp (r .0) (ap Refused (r .1), refl)
 
 -- the alphabet of a service
 read-as : (old : Bool) (s : List ℕ) → readAs old s ≡ cond old (oldTextOf s) (textOf s)
@@ -179,11 +125,6 @@ septets-settle : (v : Verdict) (m n : ℕ) (service : Service) (coding : ℕ) �
 septets-settle (refused q) m n service coding = refl
 septets-settle accepted m n service coding = refl
 
-left-of : (x k n : ℕ) → drop k (replicate n x) ≡ replicate (n - k) x
-left-of x zero n = let e : n ≡ n - 0 = omega arith in ap (λ (m : ℕ). replicate m x) e
-left-of x (suc k) zero = let e : 0 ≡ 0 - suc k = omega arith in ap (λ (m : ℕ). replicate m x) e
-left-of x (suc k) (suc n) = let e : n - k ≡ suc n - suc k = omega arith in left-of x k n ∙ ap (λ (m : ℕ). replicate m x) e
-
 -- the first n septets of an array
 pub front-over : (n : ℕ) (s : List ℕ) → n ≤ length s → length (take n s) % 8 ≡ n % 8
 front-over n s h = ap (λ (k : ℕ). k % 8) (length-take-le n s h)
@@ -219,7 +160,7 @@ closed-none service plain p q n s m long =
 -- laying the CRs of a page behind its text
 page-is : (t : List ℕ) → t ++ replicate (93 - length t) 13 ≡ page t
 unfolding page laid
-page-is t = ap (λ (z : List ℕ). t ++ z) (sym (left-of 13 (length t) 93))
+page-is t = ap (λ (z : List ℕ). t ++ z) (sym (replicate-drop (length t) 93 13))
 
 pub page-start : (n : ℕ) (s : List ℕ) → n ≤ 93 → n ≤ length s → Laying s (page (take n s)) (replicate (93 - n) 13) n s
 page-start n s h l =
@@ -259,7 +200,7 @@ module _ (service : Service) (units : List ℕ) (l : length units ≤ firstUnlis
   encoded-array =
       ap (λ (u : List ℕ). laid (take 184 (septetsOf′ u)) (replicate 184 0)) (take-all (firstUnlisted units) units l)
       ∙ ap (λ (s : List ℕ). laid s (replicate 184 0)) (take-all 184 text (omega (arith, most-182 service)))
-      ∙ ap (λ (z : List ℕ). text ++ z) (left-of 0 (length text) 184)
+      ∙ ap (λ (z : List ℕ). text ++ z) (replicate-drop (length text) 184 0)
 
   pub encoded-run : (array : List ℕ) → array ≡ encodedLeaves units (replicate 184 0) → take (length text) array ≡ text
   encoded-run array e = ap (take (length text)) (e ∙ encoded-array) ∙ take-append-seam text (replicate (184 - length text) 0)
@@ -274,7 +215,7 @@ module _ (service : Service) (units : List ℕ) (l : length units ≤ firstUnlis
       ap (drop (length whole)) (e ∙ encoded-array)
       ∙ ap (λ (k : ℕ). drop k (text ++ replicate (184 - length text) 0)) (sym d)
       ∙ drop-append-add text (replicate (184 - length text) 0) (length whole - length text)
-      ∙ left-of 0 (length whole - length text) (184 - length text)
+      ∙ replicate-drop (length whole - length text) (184 - length text) 0
       ∙ ap (λ (k : ℕ). replicate k 0) rest)
 
   octets-length : isOldPage service ≡ false → octetsFor (length whole) ≡ length (octetsOf service text)
