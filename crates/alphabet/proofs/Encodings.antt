@@ -3,14 +3,15 @@
 use mathlib.Core.Path.{_≡_, refl, ap, ap₂, _∙_, sym, subst}
 use mathlib.Core.Bool.{false}
 use mathlib.Core.List.{List, [], _∷_, _++_, append-assoc}
-use Prim.Native.Nat.{ℕ, zero, suc, _+_, _*_, _<_, _≤_}
+use Prim.Native.Nat.{ℕ, zero, suc, _+_, _-_, _*_, _<_, _≤_}
 use native.Mathlib.Numerals.{add-one}
+use native.Mathlib.Decide.{decLe}
 use native.Mathlib.Omega.{arith}
 use lib.ListN.{length, getD, take, drop, set, length-append, length-take, take-append-drop}
-use lib.Seq.{drop-cons, take-suc, take-all, take-add, take-append-le, set-at, length-take-le}
+use lib.Seq.{drop-cons, take-suc, take-all, take-take, take-add, take-append-le, set-at, length-take-le}
 use Rattle.words.specs.Lists.{laid}
 use Rattle.words.proofs.Laid.{laid-length, laid-over}
-use Rattle.words.proofs.Places.{Passed, passed-none, passed-more, place-most}
+use Rattle.words.proofs.Places.{Passed, passed-none, passed-more, passed-over, place-most}
 use Rattle.alphabet.specs.declared.Listed.{Listed}
 use Rattle.alphabet.specs.declared.Listed.the-variants.{Main, Extension}
 use Rattle.alphabet.specs.declared.Encoded.{Encoded}
@@ -131,6 +132,32 @@ Encodes t start answer out = (answer ≡ encodedAs t) × (out ≡ encodedLeaves 
 pub encoded : {t start out : List ℕ} {n i : ℕ} → Encoding t start out n i → firstUnlisted t ≡ i → Encodes t start (record { units = i; septets = n }) out
 unfolding encodedAs encodedLeaves listedFront
 encoded {t} {start} {out} {n} {i} e at = rw at (ap (λ (k : ℕ). record { units = i; septets = k }) (e .fits .count), e .fits .stored)
+
+-- of units that are their own codes, as many are laid as there is room for
+laid-few : (t : List ℕ) (own room : ℕ) → own ≤ length t → take (own - (own - room)) t ≡ take room (take own t)
+laid-few t own room within =
+    elim (decLe own room) [
+      | yes h ↦
+          let all : own - (own - room) ≡ own = omega arith in
+          ap (λ (k : ℕ). take k t) all ∙ sym (take-all room (take own t) (omega (arith, length-take-le own t within)))
+      | no h ↦
+          let few : own - (own - room) ≡ room = omega arith in
+          ap (λ (k : ℕ). take k t) few ∙ sym (take-take room own t (omega arith))
+    ]
+
+pub own-encodes : (t start : List ℕ) (own : ℕ) → (own ≤ length t) × OwnFrom t 0 own → own ≡ length t → {n : ℕ} → n ≡ own - (own - length start) → {out : List ℕ} → out ≡ laid (take n t) start
+    → Encodes t start (record { units = own; septets = own }) out
+unfolding encodedAs encodedLeaves listedFront
+own-encodes t start own h whole e held =
+    let first = passed-over (λ unit. isUnlisted (listedAs unit)) t own (own-passed t own (h .0) (h .1)) (omega (arith, whole)) in
+    let septets = own-septets t own (h .1) in
+    rw first (
+      ap (λ (k : ℕ). record { units = own; septets = k }) (sym (ap length septets ∙ length-take-le own t (h .0))),
+      held ∙ ap (λ (s : List ℕ). laid s start) (ap (λ (k : ℕ). take k t) e ∙ laid-few t own (length start) (h .0) ∙ ap (take (length start)) (sym septets)),
+    )
+
+pub own-begun : {t start out : List ℕ} {own n : ℕ} → (own ≤ length t) × OwnFrom t 0 own → n ≡ own - (own - length start) → out ≡ laid (take n t) start → Begun t start out n
+own-begun h e held = record { within = omega (arith, h .0, e); room = omega (arith, e); own = λ k l. h .1 k (omega (arith, l, e)); held = held }
 
 -- the septets go over at least the units that are their own codes
 own-few : (t : List ℕ) (n : ℕ) → n ≤ length t → OwnFrom t 0 n → n ≤ length (septetsOf (take (firstUnlisted t) t))

@@ -51,18 +51,14 @@ pub fn encode(text: &[u16], out: &mut [u8]) -> Encoded
     ensures answer { λ r. ⌜ r ≡ encodedAs (now (text .entry)) ⌝ }
     ensures buffer { λ r. ⌜ now (out .exit) ≡ encodedLeaves (now (text .entry)) (now (out .entry)) ⌝ }
 {
-    let mut front = own::own_front(text);
-    if out.len() < front {
-        front = 0;
-    }
-    if 0 < front {
-        own::copy_units(text, front, out);
-        if front == text.len() {
-            return Encoded {
-                units: front,
-                septets: front,
-            };
-        }
+    let own = own::own_front(text);
+    let front = own::fewer(own, out.len());
+    own::copy_units(text, front, out);
+    if own == text.len() {
+        return Encoded {
+            units: own,
+            septets: own,
+        };
     }
     writing::encode_from(text, front, out)
 }

@@ -170,6 +170,13 @@ pub(crate) fn own_septets(septets: &[u8]) -> usize
     own_eights(septets, n)
 }
 
+// The smaller of two numbers.
+pub(crate) fn fewer(a: usize, b: usize) -> usize
+    ensures { λ r. ⌜ r ≡ a - (a - b) ⌝ }
+{
+    if a < b { a } else { b }
+}
+
 // Lays the first n units over the front of the buffer as septets.
 pub(crate) fn copy_units(text: &[u16], n: usize, out: &mut [u8])
     requires { ⌜ OwnFrom (now text) 0 n ⌝ }
