@@ -3,14 +3,15 @@ mod calls;
 mod readings;
 mod text;
 
-ghost use Prim.Native.Nat.{_≤_};
 use calls::call_of;
 use calls::is_answer;
 use calls::run;
 use libc::STDIN_FILENO;
 use libc::STDOUT_FILENO;
-use text::part_end;
-use text::stands;
+use text::after;
+use text::end_at;
+use text::front;
+use text::part;
 
 // The lines so far, the cases among them, and those that differ; and how much of the present line has come, which stays at
 // 8193 for a line that is too long.
@@ -63,41 +64,22 @@ fn label_end(line: &[u8]) -> usize {
     0
 }
 
-// Whether the expected answer is the one that came, to the letter.
-fn agrees(line: &[u8], at: usize, came: &[u8], len: usize) -> bool {
-    if !stands(line, at, b" : ") {
-        return false;
-    }
-    if came.len() < len {
-        return false;
-    }
-    if line.len() < 3 {
-        return false;
-    }
-    if line.len() - 3 < at {
-        return false;
-    }
-    check::same(&line[at + 3..], &came[..len])
+// The expected answer, which the colon at a place stands before.
+fn expected(line: &[u8], at: usize) -> &[u8] {
+    part(line, after(line, at, b" : "), line.len())
 }
 
-fn report(line: &[u8], label: usize, at: usize, came: &[u8], len: usize) {
-    if came.len() < len {
-        return;
-    }
-    if line.len() < label {
-        return;
-    }
-    if line.len() < 3 {
-        return;
-    }
-    if line.len() - 3 < at {
-        return;
-    }
-    say(&line[..label]);
+// Whether the expected answer is the one that came, to the letter.
+fn agrees(line: &[u8], at: usize, came: &[u8]) -> bool {
+    0 < after(line, at, b" : ") && check::same(expected(line, at), came)
+}
+
+fn report(line: &[u8], label: usize, at: usize, came: &[u8]) {
+    say(front(line, label));
     say(b": expected ");
-    say(&line[at + 3..]);
+    say(expected(line, at));
     say(b"; came ");
-    say(&came[..len]);
+    say(came);
     say(b"\n");
 }
 
@@ -108,14 +90,14 @@ fn judge(line: &[u8], number: u64, came: &mut [u8]) -> bool {
         say_line(number, b": not a case\n");
         return false;
     }
-    let to = part_end(line, label + 1);
-    let call = call_of(line, label + 1, to);
+    let to = end_at(line, label + 1, 32);
+    let call = call_of(part(line, label + 1, to));
     let ran = run(call, line, to, came);
-    if agrees(line, ran.at, came, ran.len) {
+    if agrees(line, ran.at, front(came, ran.len)) {
         return true;
     }
     if is_answer(call, line, ran.at) {
-        report(line, label, ran.at, came, ran.len);
+        report(line, label, ran.at, front(came, ran.len));
     } else {
         say_line(number, b": not a case\n");
     }
@@ -139,10 +121,7 @@ fn agrees_up_to(line: &[u8], len: usize, number: u64, came: &mut [u8]) -> bool {
         say_line(number, b": longer than 8192 characters\n");
         return false;
     }
-    if line.len() < len {
-        return false;
-    }
-    judge(&line[..len], number, came)
+    judge(front(line, len), number, came)
 }
 
 // Runs what stands in the line buffer, if that is a case. At the end of the input that is a line without a line feed.

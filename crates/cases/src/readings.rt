@@ -1,10 +1,11 @@
 // Readings in words (docs/CASES.md, "Readings"). A word goes by its number in the list of all of them.
 ghost use Prim.Native.Nat.{_≤_};
-use crate::text::is_word;
-use crate::text::part_end;
+use crate::text::end_at;
+use crate::text::find_word;
+use crate::text::part;
 use crate::text::put;
-use crate::text::stands;
-use crate::text::value_at;
+use crate::text::value_of;
+use crate::text::word_at;
 use coding::Alphabet;
 use coding::Class;
 use coding::Kind;
@@ -12,9 +13,9 @@ use coding::Language;
 use coding::Notice;
 use coding::Reading;
 
-// Every word, field by field, ten octets each, filled up with spaces.
-const WORDS: [u8; 370] =
-    *b"8bit      ucs2      wap       compressedclass0    class1    class2    class3    user1     user2     german    english   italian   french    spanish   dutch     swedish   danish    portuguesefinnish   norwegian greek     turkish   hungarian polish    czech     deletion  discard   store     active    inactive  voicemail fax       mail      other     prefix    reserved  ";
+// Every word, field by field.
+const WORDS: [u8; 592] =
+    *b"8bit            ucs2            wap             compressed      class0          class1          class2          class3          user1           user2           german          english         italian         french          spanish         dutch           swedish         danish          portuguese      finnish         norwegian       greek           turkish         hungarian       polish          czech           deletion        discard         store           active          inactive        voicemail       fax             mail            other           prefix          reserved        ";
 
 // The field that a word belongs to.
 fn field_of(word: usize) -> usize
@@ -34,67 +35,6 @@ fn field_of(word: usize) -> usize
     }
 }
 
-// The first word of a field.
-fn first_word(field: usize) -> usize {
-    match field {
-        0 => 0,
-        1 => 3,
-        2 => 4,
-        3 => 10,
-        4 => 26,
-        5 => 27,
-        6 => 29,
-        7 => 31,
-        8 => 35,
-        _ => 36,
-    }
-}
-
-// The word of a number; it ends at its first space.
-fn word_at(words: &[u8], word: usize) -> &[u8] {
-    if 36 < word {
-        return &words[..0];
-    }
-    if words.len() < 370 {
-        return &words[..0];
-    }
-    let part = &words[10 * word..10 * word + 10];
-    let n = part_end(part, 0);
-    if part.len() < n {
-        return part;
-    }
-    &part[..n]
-}
-
-// The number of the word that the part of the line is, or 37.
-fn find_word(words: &[u8], line: &[u8], from: usize, to: usize) -> usize {
-    if to <= from {
-        return 37;
-    }
-    let mut word: usize = 0;
-    while word < 37 {
-        if is_word(line, from, to, word_at(words, word)) {
-            return word;
-        }
-        word += 1;
-    }
-    word
-}
-
-// Where a word that begins at a place ends: at the next `+`, or at the end of the part.
-fn word_end(line: &[u8], at: usize, to: usize) -> usize
-    ensures { λ r. ⌜ at ≤ r ⌝ }
-{
-    let mut i = at;
-    while i < to {
-        if stands(line, i, b"+") {
-            return i;
-        }
-        i += 1;
-    }
-    i
-}
-
 fn alphabet_of(said: u8) -> Alphabet {
     match said {
         1 => Alphabet::EightBit,
@@ -106,55 +46,55 @@ fn alphabet_of(said: u8) -> Alphabet {
 
 fn class_of(said: u8) -> Class {
     match said {
-        1 => Class::Class0,
-        2 => Class::Class1,
-        3 => Class::Class2,
-        4 => Class::Class3,
-        5 => Class::User1,
-        6 => Class::User2,
+        5 => Class::Class0,
+        6 => Class::Class1,
+        7 => Class::Class2,
+        8 => Class::Class3,
+        9 => Class::User1,
+        10 => Class::User2,
         _ => Class::Unset,
     }
 }
 
 fn language_of(said: u8) -> Language {
     match said {
-        1 => Language::German,
-        2 => Language::English,
-        3 => Language::Italian,
-        4 => Language::French,
-        5 => Language::Spanish,
-        6 => Language::Dutch,
-        7 => Language::Swedish,
-        8 => Language::Danish,
-        9 => Language::Portuguese,
-        10 => Language::Finnish,
-        11 => Language::Norwegian,
-        12 => Language::Greek,
-        13 => Language::Turkish,
-        14 => Language::Hungarian,
-        15 => Language::Polish,
-        16 => Language::Czech,
+        11 => Language::German,
+        12 => Language::English,
+        13 => Language::Italian,
+        14 => Language::French,
+        15 => Language::Spanish,
+        16 => Language::Dutch,
+        17 => Language::Swedish,
+        18 => Language::Danish,
+        19 => Language::Portuguese,
+        20 => Language::Finnish,
+        21 => Language::Norwegian,
+        22 => Language::Greek,
+        23 => Language::Turkish,
+        24 => Language::Hungarian,
+        25 => Language::Polish,
+        26 => Language::Czech,
         _ => Language::Unspecified,
     }
 }
 
 fn kind_of(said: u8) -> Kind {
     match said {
-        1 => Kind::Voicemail,
-        2 => Kind::Fax,
-        3 => Kind::Mail,
+        32 => Kind::Voicemail,
+        33 => Kind::Fax,
+        34 => Kind::Mail,
         _ => Kind::Other,
     }
 }
 
 fn notice_of(handling: u8, sense: u8, kind: u8) -> Notice {
-    let active = sense == 1;
+    let active = sense == 30;
     match handling {
-        1 => Notice::Discard {
+        28 => Notice::Discard {
             active: active,
             kind: kind_of(kind),
         },
-        2 => Notice::Store {
+        29 => Notice::Store {
             active: active,
             kind: kind_of(kind),
         },
@@ -162,7 +102,7 @@ fn notice_of(handling: u8, sense: u8, kind: u8) -> Notice {
     }
 }
 
-// What was said of each field: 0 for nothing, else which of its words.
+// What was said of each field: 0 for nothing, else one more than the number of its word.
 struct Said {
     ok: bool,
     words: [u8; 10],
@@ -175,29 +115,22 @@ fn unsaid() -> Said {
     }
 }
 
-// The words of the part, one of a field at most, in the order of the fields.
-fn words_in(line: &[u8], from: usize, to: usize) -> Said {
+// The words of the text, one of a field at most, in the order of the fields.
+fn words_in(text: &[u8]) -> Said {
     let table = WORDS;
     let mut said = [0u8; 10];
     let mut fields: usize = 0;
-    let mut at = from;
-    while at < to {
-        let end = word_end(line, at, to);
-        let word = find_word(&table, line, at, end);
-        if 36 < word {
-            return unsaid();
-        }
+    let mut at: usize = 0;
+    while at < text.len() {
+        let end = end_at(text, at, b'+');
+        let word = find_word(&table, part(text, at, end));
         let field = field_of(word);
-        if field < fields {
+        if 36 < word || field < fields {
             return unsaid();
         }
-        let first = first_word(field);
-        if word < first {
-            return unsaid();
-        }
-        said[field] = ((word - first + 1) % 256) as u8;
+        said[field] = (word + 1) as u8;
         fields = field + 1;
-        if to <= end {
+        if text.len() <= end {
             return Said {
                 ok: true,
                 words: said,
@@ -238,31 +171,28 @@ fn reading_of(said: Said, to: usize) -> ReadingField {
         at: to,
         reading: Reading {
             alphabet: alphabet_of(words[0]),
-            compressed: words[1] == 1,
+            compressed: words[1] == 4,
             class: class_of(words[2]),
             language: language_of(words[3]),
-            deletion: words[4] == 1,
+            deletion: words[4] == 27,
             notice: notice_of(words[5], words[6], words[7]),
-            prefix: words[8] == 1,
-            reserved: words[9] == 1,
+            prefix: words[8] == 36,
+            reserved: words[9] == 37,
         },
     }
 }
 
 // The reading under the key `reading`.
 pub(crate) fn reading_field(line: &[u8], at: usize) -> ReadingField {
-    let from = value_at(line, at, b" reading=");
-    if from == 0 {
-        return no_reading();
-    }
-    let to = part_end(line, from);
-    if is_word(line, from, to, b"plain") {
+    let value = value_of(line, at, b" reading=");
+    let text = part(line, value.from, value.to);
+    if check::same(text, b"plain") {
         return ReadingField {
-            at: to,
+            at: value.to,
             reading: Reading::plain(),
         };
     }
-    reading_of(words_in(line, from, to), to)
+    reading_of(words_in(text), value.to)
 }
 
 // Puts a word behind those that stand from start on; 37 is none.

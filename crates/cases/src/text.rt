@@ -1,6 +1,5 @@
 // The text of a line: what stands where, and words, numbers and elements put into a buffer.
 ghost use Prim.Native.Nat.{_≤_};
-ghost use lib.ListN.{length};
 use typed::Elements;
 use typed::Number;
 
@@ -70,38 +69,48 @@ pub(crate) fn put_units(out: &mut [u8], at: usize, units: &[u16]) -> usize {
     end
 }
 
-// Whether the word stands at a place of the line.
-pub(crate) fn stands(line: &[u8], at: usize, word: &[u8]) -> bool {
-    if line.len() < at {
-        return false;
-    }
-    let rest = &line[at..];
-    if rest.len() < word.len() {
-        return false;
-    }
-    let mut i: usize = 0;
-    while i < word.len() {
-        if rest[i] != word[i] {
-            return false;
-        }
-        i += 1;
-    }
-    true
+// The first octets of a list, n at most.
+pub(crate) fn front(list: &[u8], n: usize) -> &[u8] {
+    let k = least(n, list.len());
+    &list[..k]
 }
 
-// Whether the part of the line is the word.
-pub(crate) fn is_word(line: &[u8], from: usize, to: usize, word: &[u8]) -> bool {
-    if to < from {
-        return false;
-    }
-    to - from == word.len() && stands(line, from, word)
+pub(crate) fn front_units(list: &[u16], n: usize) -> &[u16] {
+    let k = least(n, list.len());
+    &list[..k]
 }
 
-// Where the part that begins at a place ends: at the next space or at the end of the line.
-pub(crate) fn part_end(line: &[u8], at: usize) -> usize {
+// The part of the text between two places, or an empty one where they are not in it.
+pub(crate) fn part(text: &[u8], from: usize, to: usize) -> &[u8] {
+    if to < from || text.len() < to {
+        return &text[..0];
+    }
+    &text[from..to]
+}
+
+// Where the word ends that stands at a place of the line, or 0 where it does not stand there. Place 0 has none: a label stands there.
+pub(crate) fn after(line: &[u8], at: usize, word: &[u8]) -> usize {
+    if at == 0 || line.len() < at {
+        return 0;
+    }
+    if line.len() - at < word.len() {
+        return 0;
+    }
+    let end = at + word.len();
+    if check::same(part(line, at, end), word) {
+        end
+    } else {
+        0
+    }
+}
+
+// Where the part that begins at a place ends: at the next such mark or at the end of the text.
+pub(crate) fn end_at(text: &[u8], at: usize, mark: u8) -> usize
+    ensures { λ r. ⌜ at ≤ r ⌝ }
+{
     let mut i = at;
-    while i < line.len() {
-        if line[i] == 32 {
+    while i < text.len() {
+        if text[i] == mark {
             return i;
         }
         i += 1;
@@ -109,53 +118,39 @@ pub(crate) fn part_end(line: &[u8], at: usize) -> usize {
     i
 }
 
-// Where the value of a key begins, or 0 where the key does not stand at the place. Place 0 has no key: a label stands there.
-pub(crate) fn value_at(line: &[u8], at: usize, key: &[u8]) -> usize {
-    if at == 0 {
-        return 0;
-    }
-    if !stands(line, at, key) {
-        return 0;
-    }
-    if line.len() < at {
-        return 0;
-    }
-    if line.len() - at < key.len() {
-        return 0;
-    }
-    at + key.len()
+// A word of a table by its number. A table has sixteen octets a word, filled up with spaces, and 64 words at most.
+pub(crate) fn word_at(words: &[u8], word: usize) -> &[u8] {
+    let at = 16 * (word % 64);
+    part(words, at, end_at(words, at, 32))
 }
 
-fn number_in(line: &[u8], from: usize, to: usize) -> Number {
-    if line.len() < to {
-        return Number::Nothing;
+// The number in the table of the word that the text is, or how many words there are.
+pub(crate) fn find_word(words: &[u8], text: &[u8]) -> usize {
+    let mut word: usize = 0;
+    while word < words.len() / 16 {
+        if check::same(text, word_at(words, word)) {
+            return word;
+        }
+        word += 1;
     }
-    if to < from {
-        return Number::Nothing;
-    }
-    typed::read_number(&line[from..to])
+    word
 }
 
-// Octets of the part, one at least.
-fn octets_in(line: &[u8], from: usize, to: usize, octets: &mut [u8]) -> Elements {
-    if line.len() < to {
-        return Elements::Nothing;
-    }
-    if to <= from {
-        return Elements::Nothing;
-    }
-    typed::read_octets(&line[from..to], octets)
+// Where the value of a key begins and ends in the line. Where the key does not stand at the place, both are 0.
+pub(crate) struct Value {
+    pub from: usize,
+    pub to: usize,
 }
 
-// Units of the part, one at least.
-fn units_in(line: &[u8], from: usize, to: usize, units: &mut [u16]) -> Elements {
-    if line.len() < to {
-        return Elements::Nothing;
+pub(crate) fn value_of(line: &[u8], at: usize, key: &[u8]) -> Value {
+    let from = after(line, at, key);
+    if from == 0 {
+        return Value { from: 0, to: 0 };
     }
-    if to <= from {
-        return Elements::Nothing;
+    Value {
+        from: from,
+        to: end_at(line, from, 32),
     }
-    typed::read_units(&line[from..to], units)
 }
 
 // A number in the line and where it ends, or place 0 where there is none.
@@ -164,81 +159,57 @@ pub(crate) struct Field {
     pub number: usize,
 }
 
-fn no_field() -> Field
-    ensures { λ r. ⌜ r .number ≤ 0 ⌝ }
-{
+fn no_field() -> Field {
     Field { at: 0, number: 0 }
 }
 
-// What elements were read, and where their value ends; never more than there is room for.
-fn elements(answer: Elements, to: usize, most: usize) -> Field
-    ensures { λ r. ⌜ r .number ≤ most ⌝ }
-{
+// What elements were read, and where their value ends. A value without a character has none.
+fn elements(answer: Elements, to: usize) -> Field {
     match answer {
-        Elements::Done(n) => {
-            if n <= most {
-                return Field { at: to, number: n };
-            }
-            no_field()
-        }
+        Elements::Done(n) => Field {
+            at: if n == 0 { 0 } else { to },
+            number: n,
+        },
         Elements::Nothing => no_field(),
     }
 }
 
 // The number under a key, at most so large.
-pub(crate) fn number_field(line: &[u8], at: usize, key: &[u8], most: usize) -> Field
-    ensures { λ r. ⌜ r .number ≤ most ⌝ }
-{
-    let from = value_at(line, at, key);
-    if from == 0 {
-        return no_field();
-    }
-    let to = part_end(line, from);
-    match number_in(line, from, to) {
-        Number::Is(n) => {
-            let number = n as usize;
-            if number <= most {
-                return Field {
-                    at: to,
-                    number: number,
-                };
-            }
-            no_field()
-        }
+pub(crate) fn number_field(line: &[u8], at: usize, key: &[u8], most: u32) -> Field {
+    let value = value_of(line, at, key);
+    match typed::read_number(part(line, value.from, value.to)) {
+        Number::Is(n) => Field {
+            at: if n <= most { value.to } else { 0 },
+            number: n as usize,
+        },
         Number::Nothing => no_field(),
     }
 }
 
 // How many octets stand under a key; they are stored at the front of the buffer.
-pub(crate) fn octets_field(line: &[u8], at: usize, key: &[u8], octets: &mut [u8]) -> Field
-    ensures { λ r. ⌜ r .number ≤ length (now (octets .entry)) ⌝ }
-{
-    let from = value_at(line, at, key);
-    if from == 0 {
-        return no_field();
+pub(crate) fn octets_field(line: &[u8], at: usize, key: &[u8], octets: &mut [u8]) -> Field {
+    let value = value_of(line, at, key);
+    let text = part(line, value.from, value.to);
+    if check::same(text, b"-") {
+        return Field {
+            at: value.to,
+            number: 0,
+        };
     }
-    let to = part_end(line, from);
-    if is_word(line, from, to, b"-") {
-        return Field { at: to, number: 0 };
-    }
-    let answer = octets_in(line, from, to, octets);
-    elements(answer, to, octets.len())
+    elements(typed::read_octets(text, octets), value.to)
 }
 
 // How many units stand under a key; they are stored at the front of the buffer.
-pub(crate) fn units_field(line: &[u8], at: usize, key: &[u8], units: &mut [u16]) -> Field
-    ensures { λ r. ⌜ r .number ≤ length (now (units .entry)) ⌝ }
-{
-    let from = value_at(line, at, key);
-    if from == 0 {
-        return no_field();
+pub(crate) fn units_field(line: &[u8], at: usize, key: &[u8], units: &mut [u16]) -> Field {
+    let value = value_of(line, at, key);
+    let text = part(line, value.from, value.to);
+    if check::same(text, b"-") {
+        return Field {
+            at: value.to,
+            number: 0,
+        };
     }
-    let to = part_end(line, from);
-    if is_word(line, from, to, b"-") {
-        return Field { at: to, number: 0 };
-    }
-    let answer = units_in(line, from, to, units);
-    elements(answer, to, units.len())
+    elements(typed::read_units(text, units), value.to)
 }
 
 // An octet in the line and where it ends, or place 0 where there is none.
@@ -251,11 +222,8 @@ pub(crate) struct OctetField {
 pub(crate) fn octet_field(line: &[u8], at: usize, key: &[u8]) -> OctetField {
     let mut octets = [0u8; 1];
     let field = octets_field(line, at, key, &mut octets);
-    if field.number == 0 {
-        return OctetField { at: 0, octet: 0 };
-    }
     OctetField {
-        at: field.at,
+        at: if field.number == 0 { 0 } else { field.at },
         octet: octets[0],
     }
 }

@@ -8,9 +8,9 @@ use words::Filled;
 
 const ESCAPE: u8 = 0x1b;
 
-// The number, the octet and its eight bits, or the septet and its seven.
-fn piece(n: usize, value: u8, bits: usize) {
-    say::number(n);
+// A name and the number, the octet and its eight bits, or the septet and its seven.
+fn piece(name: &[u8], n: usize, value: u8, bits: usize) {
+    say::numbered(name, n);
     say::say(b" ");
     say::octet(value);
     say::say(b" ");
@@ -23,30 +23,25 @@ fn piece(n: usize, value: u8, bits: usize) {
 
 pub(crate) fn octets(list: &[u8]) {
     for j in 0..list.len() {
-        say::say(b"octet ");
-        piece(j, list[j], 8);
+        piece(b"octet ", j, list[j], 8);
         say::say(b"\n");
     }
 }
 
 // The bits of octet j from high down to low.
 fn place(j: usize, high: usize, low: usize) {
-    say::say(b" octet ");
-    say::number(j);
+    say::numbered(b" octet ", j);
     if low < high {
-        say::say(b" bits ");
-        say::number(high);
-        say::say(b"..");
+        say::numbered(b" bits ", high);
+        say::numbered(b"..", low);
     } else {
-        say::say(b" bit ");
+        say::numbered(b" bit ", low);
     }
-    say::number(low);
 }
 
 // A septet and where it lies: bits 7k to 7k + 6 of the stream, eight to an octet, lowest first.
 fn septet(k: usize, value: u8) {
-    say::say(b"septet ");
-    piece(k, value, 7);
+    piece(b"septet ", k, value, 7);
     if k < 200 {
         let j = 7 * k / 8;
         let low = 7 * k % 8;
@@ -137,8 +132,7 @@ fn dropped(service: usize, kept: usize, total: usize) {
     if service == job::USSD {
         septet(kept, filler);
     } else {
-        say::say(b"septets from ");
-        say::number(kept);
+        say::numbered(b"septets from ", kept);
         say::say(b" on ");
         say::octet(filler);
         say::say(b": ");
@@ -193,15 +187,12 @@ pub(crate) fn septets(job: Job, octets: &[u8]) {
 
 // A unit, the two octets where it lies, and its letter.
 fn unit_line(i: usize, unit: u16) {
-    say::say(b"unit ");
-    say::number(i);
+    say::numbered(b"unit ", i);
     say::say(b" ");
     say::unit(unit, say::SPELLED);
     if i < 200 {
-        say::say(b" octets ");
-        say::number(2 * i);
-        say::say(b", ");
-        say::number(2 * i + 1);
+        say::numbered(b" octets ", 2 * i);
+        say::numbered(b", ", 2 * i + 1);
     }
     say::say(b": ");
     letter(unit);
@@ -213,8 +204,7 @@ pub(crate) fn units(list: &[u16], octets: usize) {
         unit_line(i, list[i]);
     }
     if list.len() < octets / 2 {
-        say::say(b"units from ");
-        say::number(list.len());
+        say::numbered(b"units from ", list.len());
         say::say(b" on 000D: closing CR, page filling, dropped\n");
     }
 }

@@ -7,11 +7,19 @@ use coding::OctetWritten;
 use coding::Reading;
 use words::Service;
 
-fn mark(is_set: bool) {
+// A line of a fact: the list's first part, which is its name, and one of those behind it, from 0.
+fn fact(list: &[u8], n: u8) {
+    say::part(list, 0);
+    say::part(list, (n as usize) + 1);
+    say::say(b"\n");
+}
+
+fn mark(name: &[u8], is_set: bool) {
+    say::say(name);
     if is_set {
-        say::say(b"yes\n");
+        say::say(b" yes\n");
     } else {
-        say::say(b"no\n");
+        say::say(b" no\n");
     }
 }
 
@@ -20,39 +28,32 @@ fn fields(reading: Reading) {
     let class = reading.class;
     let language = reading.language;
     let notice = reading.notice;
-    say::say(b"alphabet ");
-    say::part(b"7-bit|8-bit data|UCS2|WAP|", alphabet.number() as usize);
-    say::say(b"\ncompressed ");
-    mark(reading.compressed);
-    say::say(b"class ");
-    say::part(
-        b"none|0|1|2|3|user-defined 1|user-defined 2|",
-        class.number() as usize,
+    fact(b"alphabet |7-bit|8-bit data|UCS2|WAP|", alphabet.number());
+    mark(b"compressed", reading.compressed);
+    fact(
+        b"class |none|0|1|2|3|user-defined 1|user-defined 2|",
+        class.number(),
     );
-    say::say(b"\nlanguage ");
-    say::part(
-        b"German|English|Italian|French|Spanish|Dutch|Swedish|Danish|Portuguese|
+    fact(
+        b"language |German|English|Italian|French|Spanish|Dutch|Swedish|Danish|Portuguese|
 Finnish|Norwegian|Greek|Turkish|Hungarian|Polish|unspecified|Czech|",
-        language.number() as usize,
+        language.number(),
     );
-    say::say(b"\ndeletion ");
-    mark(reading.deletion);
-    say::say(b"notice ");
+    mark(b"deletion", reading.deletion);
     waiting(notice.number() as usize);
-    say::say(b"\nprefix ");
-    mark(reading.prefix);
-    say::say(b"reserved ");
-    mark(reading.reserved);
+    mark(b"prefix", reading.prefix);
+    mark(b"reserved", reading.reserved);
 }
 
 // A waiting notice by its number: 0 is none, bit 5 store, bit 3 active, bits 1..0 the kind.
 fn waiting(n: usize) {
     if n == 0 {
-        say::say(b"none");
+        say::say(b"notice none\n");
     } else {
-        say::part(b"discard|store|", n / 32);
+        say::part(b"notice discard|notice store|", n / 32);
         say::part(b", not active|, active|", n / 8 % 2);
         say::part(b", voicemail|, fax|, electronic mail|, other|", n % 4);
+        say::say(b"\n");
     }
 }
 

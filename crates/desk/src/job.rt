@@ -52,40 +52,64 @@ fn spread(slots: &mut [usize]) {
     line::put(slots, 2, octets);
 }
 
-// Whether the options and the number of words suit the command; if not, it says why. A message that is read or drawn may have
-// its coding and its count among the words.
+// What does not suit the command, and what to show with it.
+struct Misfit {
+    fault: usize,
+    at: usize,
+}
+
+// What is wrong with the number of words, where `wanted` of them are asked; fault 0 is nothing. A message that is read or drawn may
+// have its coding and its count among the words.
+fn miscount(verb: usize, slots: &[usize], words: usize, wanted: usize) -> Misfit {
+    if words < 2 {
+        return Misfit {
+            fault: fault::NO_SERVICE,
+            at: 0,
+        };
+    }
+    if words < wanted {
+        return Misfit {
+            fault: fault::MISSING,
+            at: 0,
+        };
+    }
+    if words < 5 || (verb != help::READ && verb != help::EXPLAIN) {
+        return Misfit {
+            fault: fault::MANY,
+            at: line::slot(slots, wanted),
+        };
+    }
+    if 0 < line::slot(slots, line::CODING) {
+        return Misfit {
+            fault: fault::TWICE,
+            at: line::CODING,
+        };
+    }
+    Misfit {
+        fault: if 0 < line::slot(slots, line::COUNT) {
+            fault::TWICE
+        } else {
+            0
+        },
+        at: line::COUNT,
+    }
+}
+
+// Whether the options and the number of words suit the command; if not, it says why.
 pub(crate) fn suits(verb: usize, slots: &mut [usize], words: usize) -> bool {
     let odd = strange(verb, slots);
-    let short = verb == help::HELP || 0 < line::slot(slots, line::UNITS);
-    let wanted = if short { 2 } else { 3 };
     if 0 < odd {
         fault::complain(fault::STRANGE, odd, verb);
         return false;
     }
-    if verb == help::HELP && words < 3 {
+    let short = verb == help::HELP || 0 < line::slot(slots, line::UNITS);
+    let wanted = if short { 2 } else { 3 };
+    if words == wanted || (verb == help::HELP && words < 3) {
         return true;
     }
-    if words < 2 {
-        fault::complain(fault::NO_SERVICE, 0, verb);
-        return false;
-    }
-    if words < wanted {
-        fault::complain(fault::MISSING, 0, verb);
-        return false;
-    }
-    if words == wanted {
-        return true;
-    }
-    if words < 5 || (verb != help::READ && verb != help::EXPLAIN) {
-        fault::complain(fault::MANY, line::slot(slots, wanted), verb);
-        return false;
-    }
-    if 0 < line::slot(slots, line::CODING) {
-        fault::complain(fault::TWICE, line::CODING, verb);
-        return false;
-    }
-    if 0 < line::slot(slots, line::COUNT) {
-        fault::complain(fault::TWICE, line::COUNT, verb);
+    let misfit = miscount(verb, slots, words, wanted);
+    if 0 < misfit.fault {
+        fault::complain(misfit.fault, misfit.at, verb);
         return false;
     }
     spread(slots);

@@ -5,10 +5,8 @@ use words::Refusal;
 
 pub(crate) fn told(refusal: Refusal) {
     let n = refusal.number() as usize;
-    say::say(b"refused ");
-    say::number(n);
-    say::say(b" at ");
-    say::number(refusal.position());
+    say::numbered(b"refused ", n);
+    say::numbered(b" at ", refusal.position());
     say::say(b": ");
     say::part(
         b"|
@@ -53,23 +51,27 @@ pub(crate) fn message(refusal: Refusal, coding: u8, list: &[u8]) {
 // A refusal of a text that is written, shown as it was typed.
 pub(crate) fn text(refusal: Refusal, coding: u8, list: &[u16], how: u8) {
     let n = refusal.number();
-    let at = line::within_units(refusal.position(), list);
     if n < 4 || n == 8 {
         let one = [coding];
         octets(refusal, b"coding ", &one);
-    } else if how == say::SPELLED {
-        told(refusal);
-        say::say(b"units ");
-        say::units(list, say::SPELLED);
-        say::say(b"\n      ");
-        say::units(&list[..at], say::UNDER_SPELLED);
-        say::say(b"^\n");
-    } else {
-        told(refusal);
-        say::say(b"text ");
-        say::units(list, say::SHOWN);
-        say::say(b"\n     ");
-        say::units(&list[..at], say::UNDER_SHOWN);
-        say::say(b"^\n");
+        return;
     }
+    told(refusal);
+    let at = refusal.position();
+    if how == say::SPELLED {
+        units(b"units ", list, at, say::SPELLED, say::UNDER_SPELLED);
+    } else {
+        units(b"text ", list, at, say::SHOWN, say::UNDER_SHOWN);
+    }
+}
+
+// The units behind their name, and a caret under the one at a place.
+fn units(name: &[u8], list: &[u16], at: usize, how: u8, under: u8) {
+    let n = line::within_units(at, list);
+    say::say(name);
+    say::units(list, how);
+    say::say(b"\n");
+    say::octets(name, say::UNDER_SHOWN);
+    say::units(&list[..n], under);
+    say::say(b"^\n");
 }

@@ -19,6 +19,11 @@ pub(crate) fn number(n: usize) {
     io::print_decimal(STDOUT_FILENO, n as u64);
 }
 
+pub(crate) fn numbered(words: &[u8], n: usize) {
+    say(words);
+    number(n);
+}
+
 fn letter(c: u8) {
     let one = [c];
     io::write_all(STDOUT_FILENO, &one);

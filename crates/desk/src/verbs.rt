@@ -22,8 +22,7 @@ fn packed(out: &[u8], octets: usize, count: usize) {
     let n = line::within(octets, out);
     say::say(b"octets ");
     say::octets(&out[..n], say::SPELLED);
-    say::say(b"\ncount ");
-    say::number(count);
+    say::numbered(b"\ncount ", count);
     say::say(b"\n");
 }
 

@@ -13,11 +13,8 @@ abbrev μ-loop : tie.MeasureT-loop
 loop-holds : tie.Need-loop-holds Inv-loop μ-loop
 loop-holds c = search needs
 
-slice-aggregate-say : tie.Need-slice-aggregate-say Inv-loop μ-loop
-slice-aggregate-say c = search needs
-
-say-requires : tie.Need-say-requires Inv-loop μ-loop
-say-requires c κs = search needs
+slice-aggregate-piece : tie.Need-slice-aggregate-piece Inv-loop μ-loop
+slice-aggregate-piece c = search needs
 
 shared-slice-read-piece : tie.Need-shared-slice-read-piece Inv-loop μ-loop
 shared-slice-read-piece c = search needs
@@ -25,11 +22,11 @@ shared-slice-read-piece c = search needs
 piece-requires : tie.Need-piece-requires Inv-loop μ-loop
 piece-requires c κs = search needs
 
-slice-aggregate-say-2 : tie.Need-slice-aggregate-say-2 Inv-loop μ-loop
-slice-aggregate-say-2 c = search needs
+slice-aggregate-say : tie.Need-slice-aggregate-say Inv-loop μ-loop
+slice-aggregate-say c = search needs
 
-say-requires-2 : tie.Need-say-requires-2 Inv-loop μ-loop
-say-requires-2 c κs = search needs
+say-requires : tie.Need-say-requires Inv-loop μ-loop
+say-requires c κs = search needs
 
 add-j : tie.Need-add-j Inv-loop μ-loop
 add-j c = search needs
@@ -50,12 +47,11 @@ octets-spec =
     Inv-loop
     μ-loop
     loop-holds
-    slice-aggregate-say
-    say-requires
+    slice-aggregate-piece
     shared-slice-read-piece
     piece-requires
-    slice-aggregate-say-2
-    say-requires-2
+    slice-aggregate-say
+    say-requires
     add-j
     loop-less
     loop-again

@@ -1,15 +1,15 @@
 -- Each turn passes one octet.
-use Prim.Native.Nat.{_-_}
+use Prim.Native.Nat.{_-_, _≤_}
 use lib.ListN.{length}
 use borrow.Author.Needs.{needs}
-use Rattle.cases.proofs.text.part_end.Statement.{statement}
-use Rattle.cases.proofs.text.part_end.Tie as tie
+use Rattle.cases.proofs.text.end_at.Statement.{statement}
+use Rattle.cases.proofs.text.end_at.Tie as tie
 
 abbrev Inv-loop : tie.InvT-loop
-Inv-loop line at i₀ i = Unit {0}
+Inv-loop text at mark i₀ i = at ≤ i
 
 abbrev μ-loop : tie.MeasureT-loop
-μ-loop line at i₀ i = length line - i
+μ-loop text at mark i₀ i = length text - i
 
 loop-holds : tie.Need-loop-holds Inv-loop μ-loop
 loop-holds c = search needs
@@ -32,8 +32,8 @@ loop-again c = search needs
 returns-2 : tie.Need-returns-2 Inv-loop μ-loop
 returns-2 c = search needs
 
-pub part-end-spec : {M : Type 1} → statement M
-part-end-spec =
+pub end-at-spec : {M : Type 1} → statement M
+end-at-spec =
     tie.close
     (tie.spec
     Inv-loop
