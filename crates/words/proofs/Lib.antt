@@ -1,6 +1,7 @@
 pub mod Unique
 pub mod Outcomes
 pub mod Judging
+pub mod Numbers
 pub mod Bits
 pub mod Tests
 pub mod Places

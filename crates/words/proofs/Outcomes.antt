@@ -8,6 +8,8 @@ use Rattle.words.proofs.Service.most_units.Kinds as units-kinds
 use Rattle.words.proofs.Service.most_units.Reads as units
 use Rattle.words.proofs.Service.most_octets.Kinds as octets-kinds
 use Rattle.words.proofs.Service.most_octets.Reads as octets
+use Rattle.words.proofs.Service.is_old_page.Kinds as old-page-kinds
+use Rattle.words.proofs.Service.is_old_page.Reads as old-page
 use Rattle.words.proofs.Refusal.number.Kinds as number-kinds
 use Rattle.words.proofs.Refusal.number.Reads as number
 use Rattle.words.proofs.Refusal.position.Kinds as position-kinds
@@ -23,6 +25,9 @@ most-units-unique κs a x y u v p q = p ∙ sym q
 
 pub most-octets-unique : OneAnswer octets-kinds.ps octets-kinds.r octets.Post
 most-octets-unique κs a x y u v p q = p ∙ sym q
+
+pub is-old-page-unique : OneAnswer old-page-kinds.ps old-page-kinds.r old-page.Post
+is-old-page-unique κs a x y u v p q = p ∙ sym q
 
 pub number-unique : OneAnswer number-kinds.ps number-kinds.r number.Post
 number-unique κs a x y u v p q = p ∙ sym q

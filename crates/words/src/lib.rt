@@ -1,10 +1,9 @@
 // The words that every crate shares: the four services with their sizes, the refusals with their numbers, and what is no septet.
 ghost use mathlib.Core.Path.{_≡_};
 ghost use Prim.Native.Nat.{ℕ, _≤_};
-ghost use lib.Dec.{leb};
 ghost use lib.ListN.{getD};
-ghost use Rattle.words.specs.Lists.{firstPlace};
-ghost use Rattle.words.specs.Sizes.{mostSeptets, mostUnits, mostOctets};
+ghost use Rattle.words.specs.Lists.{firstWide};
+ghost use Rattle.words.specs.Sizes.{mostSeptets, mostUnits, mostOctets, isOldPage};
 ghost use Rattle.words.specs.Refusals.{numberOf, positionOf};
 
 // What carries the text. An old page is a broadcast page of 1991, which is read only.
@@ -51,6 +50,18 @@ impl Service {
             Service::OldPage => 82,
         }
     }
+
+    // Whether it is the old page, which is read only, by an alphabet of its own.
+    pub fn is_old_page(self) -> bool
+        ensures answer { λ r. ⌜ r ≡ isOldPage self ⌝ }
+    {
+        match self {
+            Service::ShortMessage => false,
+            Service::Broadcast => false,
+            Service::Ussd => false,
+            Service::OldPage => true,
+        }
+    }
 }
 
 // Why a call gives no answer. A case holds a position where document 01 gives one.
@@ -73,6 +84,16 @@ pub enum Refusal {
     Unwritable,
     // 9: a given septet is 128 or more; the first such septet.
     NoSeptet { septet: usize },
+    // 10: the pages or parts are not those of one message. Not given yet.
+    WrongPages,
+    // 11: the language letters are not two letters and what follows them. Not given yet.
+    WrongLetters,
+    // 12: the user data header does not hold together. Not given yet.
+    WrongHeader,
+    // 13: the language has no table. Not given yet.
+    NoTable,
+    // 14: an ill-formed sequence of octets, or a lone surrogate; the first one. Not given yet.
+    IllFormed { place: usize },
 }
 
 impl Refusal {
@@ -90,6 +111,11 @@ impl Refusal {
             Refusal::NoRoom => 7,
             Refusal::Unwritable => 8,
             Refusal::NoSeptet { septet: _ } => 9,
+            Refusal::WrongPages => 10,
+            Refusal::WrongLetters => 11,
+            Refusal::WrongHeader => 12,
+            Refusal::NoTable => 13,
+            Refusal::IllFormed { place: _ } => 14,
         }
     }
 
@@ -107,6 +133,11 @@ impl Refusal {
             Refusal::NoRoom => 0,
             Refusal::Unwritable => 0,
             Refusal::NoSeptet { septet } => septet,
+            Refusal::WrongPages => 0,
+            Refusal::WrongLetters => 0,
+            Refusal::WrongHeader => 0,
+            Refusal::NoTable => 0,
+            Refusal::IllFormed { place } => place,
         }
     }
 }
@@ -134,7 +165,7 @@ fn all_bits(septets: &[u8]) -> u8
 
 // The place of the first septet of 128 or more, which refusal 9 tells, or the number of septets where there is none.
 pub fn first_wide(septets: &[u8]) -> usize
-    ensures answer { λ r. ⌜ r ≡ firstPlace (leb 128) (now (septets .entry)) ⌝ }
+    ensures answer { λ r. ⌜ r ≡ firstWide (now (septets .entry)) ⌝ }
 {
     if all_bits(septets) < 128 {
         return septets.len();
