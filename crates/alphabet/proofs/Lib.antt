@@ -1,9 +1,0 @@
-pub mod Among
-pub mod Entries
-pub mod Septets
-pub mod Rows
-pub mod OwnCodes
-pub mod Distinct
-pub mod Theorems
-pub mod Encodings
-pub mod Outcomes

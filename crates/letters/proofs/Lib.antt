@@ -1,0 +1,12 @@
+pub mod Among
+pub mod Same
+pub mod Entries
+pub mod Septets
+pub mod Rows
+pub mod OwnCodes
+pub mod Distinct
+pub mod Pairs
+pub mod Theorems
+pub mod Encodings
+pub mod Gathering
+pub mod Examples

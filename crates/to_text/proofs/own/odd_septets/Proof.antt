@@ -1,0 +1,53 @@
+-- `to_text::own::odd_septets` meets its contract. The invariant: where the bits gathered are none, all that were passed are their own codes.
+-- Assumes nothing.
+use mathlib.Core.Path.{_≡_}
+use Prim.Native.Nat.{_-_, _≤_}
+use native.Mathlib.Omega.{arith}
+use borrow.Author.Needs.{needs}
+use Rattle.letters.specs.Inner.{OwnFrom}
+use Rattle.letters.proofs.OwnCodes.{own-none, own-more}
+use Rattle.to_text.proofs.own.odd_septets.Statement.{statement}
+use Rattle.to_text.proofs.own.odd_septets.Tie as tie
+
+abbrev Inv-loop : tie.InvT-loop
+Inv-loop septets from to bits₀ i₀ bits i = (i ≤ to) × (from ≤ i) × (bits ≡ 0 → OwnFrom septets from i)
+
+abbrev μ-loop : tie.MeasureT-loop
+μ-loop septets from to bits₀ i₀ bits i = to - i
+
+loop-holds : tie.Need-loop-holds Inv-loop μ-loop
+loop-holds c = (search needs, search needs, λ e. own-none (c .before .args .septets .now) (c .before .args .from))
+
+shared-slice-read-odd-septet : tie.Need-shared-slice-read-odd-septet Inv-loop μ-loop
+shared-slice-read-odd-septet c = search needs
+
+odd-septet-requires : tie.Need-odd-septet-requires Inv-loop μ-loop
+odd-septet-requires c κs = search needs
+
+add-i : tie.Need-add-i Inv-loop μ-loop
+add-i c = search needs
+
+loop-less : tie.Need-loop-less Inv-loop μ-loop
+loop-less c = search needs
+
+loop-again : tie.Need-loop-again Inv-loop μ-loop
+loop-again c =
+    let at = c .before .before .before in
+    (search needs, search needs, own-more (at .before .before .args .septets .now) (at .before .before .args .from) (at .loop .i) (at .loop .bits) (c .odd-septet .result) (at .loop .inv .2) (c .odd-septet .ensures))
+
+returns : tie.Need-returns Inv-loop μ-loop
+returns c = λ e k l m. c .before .loop .inv .2 e k (omega arith) m
+
+pub odd-septets-spec : {M : Type 1} → statement M
+odd-septets-spec =
+    tie.close
+    (tie.spec
+    Inv-loop
+    μ-loop
+    loop-holds
+    shared-slice-read-odd-septet
+    odd-septet-requires
+    add-i
+    loop-less
+    loop-again
+    returns)

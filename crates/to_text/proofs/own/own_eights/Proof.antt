@@ -1,0 +1,74 @@
+-- `to_text::own::own_eights` meets its contract. The invariant: all that were passed are their own codes.
+-- Assumes nothing.
+use Prim.Native.Nat.{_+_, _-_, _≤_}
+use native.Mathlib.Omega.{arith}
+use lib.ListN.{length}
+use borrow.Author.Needs.{needs}
+use Rattle.letters.specs.Inner.{OwnFrom}
+use Rattle.letters.proofs.OwnCodes.{own-join}
+use Rattle.to_text.proofs.own.own_eights.Statement.{statement}
+use Rattle.to_text.proofs.own.own_eights.Tie as tie
+
+abbrev Inv-loop : tie.InvT-loop
+Inv-loop septets from len n₀ n = (n ≤ length septets) × OwnFrom septets 0 n
+
+abbrev μ-loop : tie.MeasureT-loop
+μ-loop septets from len n₀ n = length septets - n
+
+loop-holds : tie.Need-loop-holds Inv-loop μ-loop
+loop-holds c = (c .before .pre .1, c .before .pre .2)
+
+sub-loop : tie.Need-sub-loop Inv-loop μ-loop
+sub-loop c = search needs
+
+odd-eight-requires : tie.Need-odd-eight-requires Inv-loop μ-loop
+odd-eight-requires c κs = search needs
+
+returns : tie.Need-returns Inv-loop μ-loop
+returns c = c .before .before .before .loop .inv
+
+add-n : tie.Need-add-n Inv-loop μ-loop
+add-n c = search needs
+
+loop-less : tie.Need-loop-less Inv-loop μ-loop
+loop-less c = search needs
+
+loop-again : tie.Need-loop-again Inv-loop μ-loop
+loop-again c =
+    let at = c .before .before .before in
+    (search needs, own-join (at .before .before .args .septets .now) (at .loop .n) (at .loop .n + 8) (at .loop .inv .1) (c .before .odd-eight .ensures (c .if1 .left)))
+
+sub-odd-eight : tie.Need-sub-odd-eight Inv-loop μ-loop
+sub-odd-eight c = search needs
+
+odd-eight-requires-2 : tie.Need-odd-eight-requires-2 Inv-loop μ-loop
+odd-eight-requires-2 c κs = search needs
+
+returns-2 : tie.Need-returns-2 Inv-loop μ-loop
+returns-2 c = c .before .before .before .loop .inv
+
+-- the last eight reach to the end from where the loop ended or from before
+returns-3 : tie.Need-returns-3 Inv-loop μ-loop
+returns-3 c =
+    let at = c .before .before .before in
+    let s = at .before .before .args .septets .now in
+    let last = c .before .odd-eight2 .ensures (c .if2 .left) in
+    (search needs, own-join s (at .loop .n) (length s) (at .loop .inv .1) (λ k l m. last k (omega arith) (omega (arith, c .before .before .loop-test .left))))
+
+pub own-eights-spec : {M : Type 1} → statement M
+own-eights-spec =
+    tie.close
+    (tie.spec
+    Inv-loop
+    μ-loop
+    loop-holds
+    sub-loop
+    odd-eight-requires
+    returns
+    add-n
+    loop-less
+    loop-again
+    sub-odd-eight
+    odd-eight-requires-2
+    returns-2
+    returns-3)
