@@ -1,19 +1,12 @@
 // Pieces of one width into pieces of another, through one number of 64 bits: eight septets are seven octets.
 ghost use mathlib.Core.Path.{_≡_};
-ghost use Prim.Native.Nat.{ℕ, _+_, _*_, _^_, _≤_, _<_};
+ghost use Prim.Native.Nat.{_+_, _*_, _^_, _≤_, _<_};
 ghost use mathlib.Core.List.{_++_};
-ghost use lib.ListN.{length, getD, take, drop};
+ghost use lib.ListN.{length, take, drop};
 ghost use Rattle.words.specs.Lists.{laid};
-ghost use Rattle.stream.specs.Stream.{octetsFor};
-ghost use Rattle.stream.specs.Inner.{value, digits};
-ghost use Rattle.packing.specs.Inner.{lowOf};
-
-// How many octets n septets take. (7n could overflow.)
-pub(crate) fn octets_for(n: usize) -> usize
-    ensures { λ r. ⌜ r ≡ octetsFor n ⌝ }
-{
-    n - n / 8
-}
+ghost use Rattle.stream.specs.Digits.{value, digits, lowOf};
+use groups::squeeze;
+use groups::stretch;
 
 // An octet as a wide number; as a call it asks no proof of its range.
 fn wide(x: u8) -> u64
@@ -22,51 +15,88 @@ fn wide(x: u8) -> u64
     x as u64
 }
 
-// n octets from at on as one number, the first lowest.
-fn join(octets: &[u8], at: usize, n: usize) -> u64
-    requires { ⌜ (at + n ≤ length (now octets)) × (n ≤ 8) ⌝ }
-    ensures { λ r. ⌜ r ≡ value 256 (take n (drop at (now (octets .entry)))) ⌝ }
+// Two octets from at on as one number, the first lowest.
+fn join_two(octets: &[u8], at: usize) -> u64
+    requires { ⌜ at + 2 ≤ length (now octets) ⌝ }
+    ensures { λ r. ⌜ r ≡ value 256 (take 2 (drop at (now (octets .entry)))) ⌝ }
 {
-    let mut v: u64 = 0;
-    let mut i: usize = 0;
-    while i < n {
-        v = v | (wide(octets[at + i]) << (8 * i));
-        i += 1;
-    }
-    v
+    (wide(octets[at + 1]) << 8) | wide(octets[at])
 }
 
-// The lowest n octets of v from at on, the lowest first.
-fn spread(v: u64, out: &mut [u8], at: usize, n: usize)
-    requires { ⌜ (at + n ≤ length (now out)) × (n ≤ 8) ⌝ }
-    ensures { λ _. ⌜ now (out .exit) ≡ take at (now (out .entry)) ++ digits 256 n v ++ drop (at + n) (now (out .entry)) ⌝ }
+// Four.
+fn join_four(octets: &[u8], at: usize) -> u64
+    requires { ⌜ at + 4 ≤ length (now octets) ⌝ }
+    ensures { λ r. ⌜ r ≡ value 256 (take 4 (drop at (now (octets .entry)))) ⌝ }
 {
-    let mut i: usize = 0;
-    while i < n {
-        out[at + i] = ((v >> (8 * i)) & 0xff) as u8;
-        i += 1;
-    }
+    (join_two(octets, at + 2) << 16) | join_two(octets, at)
 }
 
-// Eight septets that lie apart, one in each octet of x, moved together: neighbours first, then pairs, then fours.
-// What is taken off moves the upper of two down; a mask and an or would have the compiler load and store octet by octet.
-fn squeeze(x: u64) -> u64
-    requires { ⌜ ((k : ℕ) → getD (digits 256 8 x) k 0 < 128) ⌝ }
-    ensures { λ r. ⌜ r ≡ value 128 (digits 256 8 x) ⌝ }
+// Seven.
+fn join_seven(octets: &[u8], at: usize) -> u64
+    requires { ⌜ at + 7 ≤ length (now octets) ⌝ }
+    ensures { λ r. ⌜ r ≡ value 256 (take 7 (drop at (now (octets .entry)))) ⌝ }
 {
-    let pairs = x - 0x80 * ((x >> 8) & 0x007f007f007f007f);
-    let fours = pairs - 0xc000 * ((pairs >> 16) & 0x00003fff00003fff);
-    fours - 0xf0000000 * (fours >> 32)
+    (((wide(octets[at + 6]) << 16) | join_two(octets, at + 4)) << 32) | join_four(octets, at)
 }
 
-// The way back: eight septets that lie together, moved apart, one into each octet.
-pub(crate) fn stretch(v: u64) -> u64
-    requires { ⌜ v < 2 ^ 56 ⌝ }
-    ensures { λ r. ⌜ r ≡ value 256 (digits 128 8 v) ⌝ }
+// Eight. Joined in a function of its own, and octet by octet, they are one load.
+fn join_eight(octets: &[u8], at: usize) -> u64
+    requires { ⌜ at + 8 ≤ length (now octets) ⌝ }
+    ensures { λ r. ⌜ r ≡ value 256 (take 8 (drop at (now (octets .entry)))) ⌝ }
 {
-    let fours = v + 0xf0000000 * (v >> 28);
-    let pairs = fours + 0xc000 * ((fours >> 14) & 0x00003fff00003fff);
-    pairs + 0x80 * ((pairs >> 7) & 0x007f007f007f007f)
+    wide(octets[at])
+        | (wide(octets[at + 1]) << 8)
+        | (wide(octets[at + 2]) << 16)
+        | (wide(octets[at + 3]) << 24)
+        | (wide(octets[at + 4]) << 32)
+        | (wide(octets[at + 5]) << 40)
+        | (wide(octets[at + 6]) << 48)
+        | (wide(octets[at + 7]) << 56)
+}
+
+// The lowest octet of v at a place.
+fn put_one(v: u64, out: &mut [u8], at: usize)
+    requires { ⌜ at + 1 ≤ length (now out) ⌝ }
+    ensures { λ _. ⌜ now (out .exit) ≡ take at (now (out .entry)) ++ digits 256 1 v ++ drop (at + 1) (now (out .entry)) ⌝ }
+{
+    out[at] = (v & 0xff) as u8;
+}
+
+// The lowest two octets of v from at on, the lowest first. Stored in a function of its own they are one store.
+fn put_two(v: u64, out: &mut [u8], at: usize)
+    requires { ⌜ at + 2 ≤ length (now out) ⌝ }
+    ensures { λ _. ⌜ now (out .exit) ≡ take at (now (out .entry)) ++ digits 256 2 v ++ drop (at + 2) (now (out .entry)) ⌝ }
+{
+    put_one(v, out, at);
+    put_one(v >> 8, out, at + 1);
+}
+
+// The lowest four.
+fn put_four(v: u64, out: &mut [u8], at: usize)
+    requires { ⌜ at + 4 ≤ length (now out) ⌝ }
+    ensures { λ _. ⌜ now (out .exit) ≡ take at (now (out .entry)) ++ digits 256 4 v ++ drop (at + 4) (now (out .entry)) ⌝ }
+{
+    put_two(v, out, at);
+    put_two(v >> 16, out, at + 2);
+}
+
+// The lowest seven.
+fn put_seven(v: u64, out: &mut [u8], at: usize)
+    requires { ⌜ at + 7 ≤ length (now out) ⌝ }
+    ensures { λ _. ⌜ now (out .exit) ≡ take at (now (out .entry)) ++ digits 256 7 v ++ drop (at + 7) (now (out .entry)) ⌝ }
+{
+    put_four(v, out, at);
+    put_two(v >> 32, out, at + 4);
+    put_one(v >> 48, out, at + 6);
+}
+
+// All eight.
+fn put_eight(v: u64, out: &mut [u8], at: usize)
+    requires { ⌜ at + 8 ≤ length (now out) ⌝ }
+    ensures { λ _. ⌜ now (out .exit) ≡ take at (now (out .entry)) ++ digits 256 8 v ++ drop (at + 8) (now (out .entry)) ⌝ }
+{
+    put_four(v, out, at);
+    put_four(v >> 32, out, at + 4);
 }
 
 // The low seven bits of eight septets from at on as one number, the first lowest.
@@ -74,7 +104,7 @@ pub(crate) fn low_eight(septets: &[u8], at: usize) -> u64
     requires { ⌜ at + 8 ≤ length (now septets) ⌝ }
     ensures { λ r. ⌜ r ≡ value 128 (take 8 (drop at (lowOf 7 (now (septets .entry))))) ⌝ }
 {
-    squeeze(join(septets, at, 8) & 0x7f7f7f7f7f7f7f7f)
+    squeeze(join_eight(septets, at))
 }
 
 // Eight septets from from on as seven octets from to on.
@@ -83,22 +113,22 @@ fn pack_group(septets: &[u8], from: usize, out: &mut [u8], to: usize)
     ensures { λ _. ⌜ now (out .exit) ≡ take to (now (out .entry)) ++ digits 256 7 (value 128 (take 8 (drop from (lowOf 7 (now (septets .entry)))))) ++ drop (to + 7) (now (out .entry)) ⌝ }
 {
     let v = low_eight(septets, from);
-    spread(v, out, to, 7);
+    put_seven(v, out, to);
 }
 
-// Seven octets from from on as eight septets from to on. Joined as eight with the last dropped, where eight are there, the compiler loads
-// them in fewer pieces.
+// Seven octets from from on as eight septets from to on. Joined as eight, where eight are there, the compiler loads
+// them in fewer pieces; the last of them is dropped.
 fn unpack_group(octets: &[u8], from: usize, out: &mut [u8], to: usize)
     requires { ⌜ (from + 7 ≤ length (now octets)) × (to + 8 ≤ length (now out)) ⌝ }
     ensures { λ _. ⌜ now (out .exit) ≡ take to (now (out .entry)) ++ digits 128 8 (value 256 (take 7 (drop from (lowOf 8 (now (octets .entry)))))) ++ drop (to + 8) (now (out .entry)) ⌝ }
 {
     let v = if from + 8 <= octets.len() {
-        join(octets, from, 8) & 0xffffffffffffff
+        join_eight(octets, from)
     } else {
-        join(octets, from, 7)
+        join_seven(octets, from)
     };
     let x = stretch(v);
-    spread(x, out, to, 8);
+    put_eight(x, out, to);
 }
 
 // u pieces of w bits from from on as w pieces of u bits from to on.
@@ -134,17 +164,17 @@ pub(crate) fn put_end(v: u64, out: &mut [u8], at: usize, n: usize)
     let mut w = v;
     let mut k = at;
     if 4 <= n {
-        spread(w, out, k, 4);
+        put_four(w, out, k);
         w = w >> 32;
         k += 4;
     }
     if 2 <= n % 4 {
-        spread(w, out, k, 2);
+        put_two(w, out, k);
         w = w >> 16;
         k += 2;
     }
     if n % 2 == 1 {
-        spread(w, out, k, 1);
+        put_one(w, out, k);
     }
 }
 
@@ -161,10 +191,10 @@ pub(crate) fn take_end(octets: &[u8], at: usize, n: usize) -> u64
     }
     if 2 <= n % 4 {
         k -= 2;
-        v = (v << 16) | join(octets, k, 2);
+        v = (v << 16) | join_two(octets, k);
     }
     if 4 <= n {
-        v = (v << 32) | join(octets, at, 4);
+        v = (v << 32) | join_four(octets, at);
     }
     v
 }

@@ -1,109 +1,164 @@
 // The packings of septets: what a service adds after a text, and how much it drops on reading.
 ghost use mathlib.Core.Path.{_≡_};
 ghost use Prim.Native.Nat.{ℕ, _≤_, _<_};
+ghost use mathlib.Core.List.{List};
 ghost use mathlib.Core.Bool.{true};
-ghost use lib.ListN.{length, getD, take, replicate};
-ghost use Rattle.words.specs.Sizes.{mostSeptets};
+ghost use lib.ListN.{length, getD, take};
 ghost use Rattle.words.specs.Lists.{laid};
-ghost use Rattle.words.specs.Closing.{withoutClosing};
 ghost use Rattle.stream.specs.Stream.{octetsFor, packed, unpacked};
-ghost use Rattle.stream.specs.UssdPacking.{addsCr};
-ghost use Rattle.packing.specs.SeptetCalls.{septetsFit, countOf};
-ghost use Rattle.packing.specs.ArrayCalls.{allAnswers, allLeaves};
-ghost use Rattle.packing.specs.Inner.{givenAnswers, givenLeaves, withCrs, sentSeptets, heldCount, keptCount};
-use crate::pieces::octets_for;
+ghost use Rattle.stream.specs.UssdPacking.{addsCr, withCr};
+ghost use Rattle.stream.specs.Pages.{page};
+ghost use Rattle.stream.specs.SeptetCalls.{septetsFit};
+ghost use Rattle.stream.specs.Digits.{value, lowOf};
+ghost use Rattle.stream.specs.ArrayCalls.{allAnswers, allLeaves, heldCount};
+ghost use Rattle.stream.specs.Inner.{givenAnswers, givenLeaves, isPage, addsUnder};
+use crate::pieces::low_eight;
 use crate::pieces::put_end;
 use crate::pieces::recut;
-use crate::pieces::stretch;
 use crate::pieces::take_end;
+use closing::fits;
+use groups::octets_for;
+use groups::squeeze;
+use groups::stretch;
 use words::Filled;
 use words::Refusal;
 use words::Service;
 
-// Whether USSD adds a CR.
-pub(crate) fn adds_cr(septets: &[u8]) -> bool
-    ensures { λ r. ⌜ r ≡ addsCr (now (septets .entry)) ⌝ }
+// Whether a text is laid over a page.
+pub(crate) fn is_page(service: Service) -> bool
+    ensures { λ r. ⌜ r ≡ isPage service ⌝ }
 {
-    let n = septets.len();
+    match service {
+        Service::ShortMessage => false,
+        Service::Broadcast => true,
+        Service::Ussd => false,
+        Service::OldPage => false,
+    }
+}
+
+// Whether the service adds a CR to the low seven bits of the first n septets.
+pub(crate) fn adds_under(service: Service, septets: &[u8], n: usize) -> bool
+    requires { ⌜ n ≤ length (now septets) ⌝ }
+    ensures { λ r. ⌜ r ≡ addsUnder service (take n (lowOf 7 (now (septets .entry)))) ⌝ }
+{
+    match service {
+        Service::ShortMessage => false,
+        Service::Broadcast => false,
+        Service::Ussd => adds_cr(septets, n),
+        Service::OldPage => false,
+    }
+}
+
+// Whether USSD adds a CR to them.
+fn adds_cr(septets: &[u8], n: usize) -> bool
+    requires { ⌜ n ≤ length (now septets) ⌝ }
+    ensures { λ r. ⌜ r ≡ addsCr (take n (lowOf 7 (now (septets .entry)))) ⌝ }
+{
     let over = n % 8;
     if over == 7 {
         return true;
     }
     if 0 < n {
         if over == 0 {
-            return septets[n - 1] == 13;
+            return septets[n - 1] & 0x7f == 13;
         }
     }
     false
 }
 
-// How many septets are packed for a text: those of the text, and the CRs that the service adds.
-pub(crate) fn septets_sent(service: Service, septets: &[u8]) -> usize
-    requires { ⌜ length (now septets) ≤ mostSeptets service ⌝ }
-    ensures { λ r. ⌜ r ≡ length (sentSeptets service (now (septets .entry))) ⌝ }
+// The page of a text: 93 septets, all CR, and the first n septets over the front.
+pub(crate) fn page_of(septets: &[u8], n: usize) -> [u8; 93]
+    requires { ⌜ (n ≤ length (now septets)) × (n ≤ 93) ⌝ }
+    ensures { λ r. ⌜ r ≡ page (take n (now (septets .entry))) ⌝ }
+{
+    let mut page = [13u8; 93];
+    let mut i: usize = 0;
+    while i < n {
+        page[i] = septets[i];
+        i += 1;
+    }
+    page
+}
+
+// Packs a page.
+pub(crate) fn send_page(page: [u8; 93], out: &mut [u8]) -> Filled
+    ensures { λ r. ⌜ r ≡ givenAnswers (packed (lowOf 7 page)) (length (now (out .entry))) ⌝ }
+    ensures { λ r. ⌜ now (out .exit) ≡ givenLeaves (packed (lowOf 7 page)) (now (out .entry)) ⌝ }
+{
+    send(&page, false, out)
+}
+
+// How many septets n septets are with a CR where cr says so.
+fn with_cr(n: usize, cr: bool) -> usize
+    requires { ⌜ n ≤ 183 ⌝ }
+    ensures { λ r. ⌜ ((l : List ℕ) → length l ≡ n → r ≡ length (withCr cr l)) ⌝ }
+{
+    if cr { n + 1 } else { n }
+}
+
+// The number of n septets, with a CR above them where cr says so.
+fn cr_above(v: u64, n: usize, cr: bool) -> u64
+    requires { ⌜ n < 8 ⌝ }
+    ensures { λ r. ⌜ ((l : List ℕ) → ((k : ℕ) → getD l k 0 < 128) → length l ≡ n → v ≡ value 128 l → r ≡ value 128 (withCr cr l)) ⌝ }
+{
+    if cr { v | (13 << (7 * n)) } else { v }
+}
+
+// Packs the low seven bits of septets, with a CR after them where cr says so.
+pub(crate) fn send(septets: &[u8], cr: bool, out: &mut [u8]) -> Filled
+    requires { ⌜ length (now septets) ≤ 183 ⌝ }
+    ensures { λ r. ⌜ r ≡ givenAnswers (packed (withCr cr (lowOf 7 (now (septets .entry))))) (length (now (out .entry))) ⌝ }
+    ensures { λ r. ⌜ now (out .exit) ≡ givenLeaves (packed (withCr cr (lowOf 7 (now (septets .entry))))) (now (out .entry)) ⌝ }
 {
     let n = septets.len();
+    let octets = octets_for(with_cr(n, cr));
+    if out.len() < octets {
+        return Filled::Refused(Refusal::NoRoom);
+    }
+    let groups = n / 8;
+    recut(septets, 7, groups, out, 8);
+    let done = 7 * groups;
+    if done < octets {
+        let rest = n % 8;
+        let v = squeeze(take_end(septets, 8 * groups, rest));
+        let w = cr_above(v, rest, cr);
+        put_end(w, out, done, octets - done);
+    }
+    Filled::Done(octets)
+}
+
+// The same of the first n septets of an array. The last group is loaded whole, and what stands behind the text is masked off.
+pub(crate) fn send_front(septets: &[u8], n: usize, cr: bool, out: &mut [u8]) -> Filled
+    requires { ⌜ (n ≤ 182) × (length (now septets) ≡ 184) ⌝ }
+    ensures { λ r. ⌜ r ≡ givenAnswers (packed (withCr cr (take n (lowOf 7 (now (septets .entry)))))) (length (now (out .entry))) ⌝ }
+    ensures { λ r. ⌜ now (out .exit) ≡ givenLeaves (packed (withCr cr (take n (lowOf 7 (now (septets .entry)))))) (now (out .entry)) ⌝ }
+{
+    let octets = octets_for(with_cr(n, cr));
+    if out.len() < octets {
+        return Filled::Refused(Refusal::NoRoom);
+    }
+    let groups = n / 8;
+    recut(septets, 7, groups, out, 8);
+    let done = 7 * groups;
+    if done < octets {
+        let rest = n % 8;
+        let v = low_eight(septets, 8 * groups) & ((1 << (7 * rest)) - 1);
+        let w = cr_above(v, rest, cr);
+        put_end(w, out, done, octets - done);
+    }
+    Filled::Done(octets)
+}
+
+// How many septets so many octets hold, the closing ones too.
+fn septets_held(service: Service, octets: usize, count: usize) -> usize
+    requires { ⌜ septetsFit service octets count ≡ true ⌝ }
+    ensures { λ r. ⌜ r ≡ heldCount service octets count ⌝ }
+{
     match service {
-        Service::ShortMessage => n,
+        Service::ShortMessage => count,
         Service::Broadcast => 93,
-        Service::Ussd => { if adds_cr(septets) { n + 1 } else { n } }
-        Service::OldPage => n,
-    }
-}
-
-// The length count that travels with the septets of a text.
-pub(crate) fn length_count(service: Service, septets: &[u8]) -> usize
-    ensures { λ r. ⌜ r ≡ countOf service (now (septets .entry)) ⌝ }
-{
-    match service {
-        Service::ShortMessage => septets.len(),
-        Service::Broadcast => 0,
-        Service::Ussd => 0,
-        Service::OldPage => 0,
-    }
-}
-
-// The septets of a text, CRs after them up to all, and zeros above, which give the spare bits of the last octet.
-fn lay(septets: &[u8], all: usize) -> [u8; 184]
-    requires { ⌜ (length (now septets) ≤ all) × (all ≤ 184) ⌝ }
-    ensures { λ r. ⌜ r ≡ laid (withCrs all (now (septets .entry))) (replicate 184 0) ⌝ }
-{
-    let mut array = [0u8; 184];
-    let mut i: usize = 0;
-    while i < septets.len() {
-        array[i] = septets[i];
-        i += 1;
-    }
-    while i < all {
-        array[i] = 13;
-        i += 1;
-    }
-    array
-}
-
-// Packs a text with CRs after it up to all. With the zeros above the last group is whole, so that no end is left.
-pub(crate) fn pack_sent(septets: &[u8], all: usize, out: &mut [u8]) -> Filled
-    requires { ⌜ ((k : ℕ) → getD (now septets) k 0 < 128) ⌝ }
-    requires { ⌜ (length (now septets) ≤ all) × (all ≤ 184) ⌝ }
-    ensures { λ r. ⌜ r ≡ givenAnswers (packed (withCrs all (now (septets .entry)))) (length (now (out .entry))) ⌝ }
-    ensures { λ r. ⌜ now (out .exit) ≡ givenLeaves (packed (withCrs all (now (septets .entry)))) (now (out .entry)) ⌝ }
-{
-    let array = lay(septets, all);
-    let mut octets = [0u8; 184];
-    recut(&array, 7, (all + 7) / 8, &mut octets, 8);
-    store(&octets, octets_for(all), out)
-}
-
-// Whether so many octets fit the service and the count.
-pub(crate) fn fits(service: Service, octets: usize, count: usize) -> bool
-    ensures { λ r. ⌜ r ≡ septetsFit service octets count ⌝ }
-{
-    let most = service.most_octets();
-    match service {
-        Service::ShortMessage => count <= service.most_septets() && octets == octets_for(count),
-        Service::Broadcast => octets == most && count == 0,
-        Service::Ussd => octets <= most && count == 0,
-        Service::OldPage => octets == most && count == 0,
+        Service::Ussd => octets + octets / 7,
+        Service::OldPage => 93,
     }
 }
 
@@ -121,6 +176,22 @@ fn unpack_into(octets: &[u8], n: usize, out: &mut [u8])
     }
 }
 
+// Unpacks all septets that octets hold under a service: how many there are.
+pub(crate) fn unpack_whole(service: Service, octets: &[u8], count: usize, out: &mut [u8]) -> Filled
+    ensures { λ r. ⌜ r ≡ allAnswers service (now (octets .entry)) count (length (now (out .entry))) ⌝ }
+    ensures { λ r. ⌜ now (out .exit) ≡ allLeaves service (now (octets .entry)) count (now (out .entry)) ⌝ }
+{
+    if !fits(service, octets.len(), count) {
+        return Filled::Refused(Refusal::WrongLength);
+    }
+    let all = septets_held(service, octets.len(), count);
+    if out.len() < all {
+        return Filled::Refused(Refusal::NoRoom);
+    }
+    unpack_into(octets, all, out);
+    Filled::Done(all)
+}
+
 // Stores the first n elements of an array.
 pub(crate) fn store(array: &[u8; 184], n: usize, out: &mut [u8]) -> Filled
     requires { ⌜ (n ≤ 184) × (length (now array) ≡ 184) ⌝ }
@@ -136,71 +207,4 @@ pub(crate) fn store(array: &[u8; 184], n: usize, out: &mut [u8]) -> Filled
         i += 1;
     }
     Filled::Done(n)
-}
-
-// Unpacks all septets that octets hold under a service: how many are left of a text.
-pub(crate) fn unpack_whole(service: Service, octets: &[u8], count: usize, out: &mut [u8]) -> Filled
-    ensures { λ r. ⌜ r ≡ allAnswers service (now (octets .entry)) count (length (now (out .entry))) ⌝ }
-    ensures { λ r. ⌜ now (out .exit) ≡ allLeaves service (now (octets .entry)) count (now (out .entry)) ⌝ }
-{
-    if !fits(service, octets.len(), count) {
-        return Filled::Refused(Refusal::WrongLength);
-    }
-    let all = septets_held(service, octets.len(), count);
-    if out.len() < all {
-        return Filled::Refused(Refusal::NoRoom);
-    }
-    unpack_into(octets, all, out);
-    Filled::Done(text_length(service, out, all))
-}
-
-// How many septets so many octets hold, the closing ones too.
-fn septets_held(service: Service, octets: usize, count: usize) -> usize
-    requires { ⌜ septetsFit service octets count ≡ true ⌝ }
-    ensures { λ r. ⌜ r ≡ heldCount service octets count ⌝ }
-{
-    match service {
-        Service::ShortMessage => count,
-        Service::Broadcast => 93,
-        Service::Ussd => octets + octets / 7,
-        Service::OldPage => 93,
-    }
-}
-
-// How many of the first n septets, all that were unpacked, are left of a text: without the filling of a page, or the CR that closes whole
-// groups of eight under USSD.
-fn text_length(service: Service, septets: &[u8], n: usize) -> usize
-    requires { ⌜ n ≤ length (now septets) ⌝ }
-    ensures { λ r. ⌜ r ≡ keptCount service (take n (now (septets .entry))) ⌝ }
-{
-    match service {
-        Service::ShortMessage => n,
-        Service::Broadcast => kept(septets, n, 13),
-        Service::Ussd => {
-            if n % 8 == 0 {
-                if 0 < n {
-                    if septets[n - 1] == 13 {
-                        return n - 1;
-                    }
-                }
-            }
-            n
-        }
-        Service::OldPage => kept(septets, n, 0),
-    }
-}
-
-// How many of the first all septets are left without the filling that closes them.
-fn kept(septets: &[u8], all: usize, filling: u8) -> usize
-    requires { ⌜ all ≤ length (now septets) ⌝ }
-    ensures { λ r. ⌜ r ≡ length (withoutClosing filling (take all (now (septets .entry)))) ⌝ }
-{
-    let mut n = all;
-    while 0 < n {
-        if septets[n - 1] != filling {
-            return n;
-        }
-        n -= 1;
-    }
-    n
 }

@@ -5,3 +5,11 @@ pub mod Pages
 pub mod UnitOctets
 pub mod Bits
 pub mod Theorems
+pub mod Folds
+pub mod LowBits
+pub mod Ends
+pub mod Given
+pub mod Arrays
+pub mod Sent
+pub mod Calls
+pub mod RoundTrips

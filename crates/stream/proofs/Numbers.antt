@@ -2,9 +2,9 @@
 -- A list before another is the low digits of their number, so that a run of pieces is recut part by part.
 -- Assumes nothing.
 use mathlib.Core.Path.{_≡_, refl, sym, ap, ap₂, _∙_, subst}
-use mathlib.Core.List.{List, [], _∷_, _++_}
+use mathlib.Core.List.{List, [], _∷_, _++_, append-nil}
 use Prim.Native.Nat.{ℕ, zero, suc, _+_, _-_, _*_, _/_, _%_, _^_, _≤_, _<_}
-use native.Mathlib.Nat.{mod-lt, pow-suc, pow-zero, pow-succ', mul-suc, mul-zero, mul-assoc, add-mul, add-assoc, zero-add, suc-add, div-one, div-div-eq-div-mul, div-lt-iff-lt-mul, div-add-mod', mul-add-div-right, mul-add-mod-self-right, not-suc-le-zero, le-of-suc-le-suc, one-le-pow, mul-le-mul-left, mul-comm}
+use native.Mathlib.Nat.{mod-lt, pow-suc, pow-zero, pow-succ', mul-suc, mul-zero, mul-assoc, add-mul, add-assoc, add-zero, zero-add, suc-add, div-one, div-div-eq-div-mul, div-lt-iff-lt-mul, div-add-mod', mul-add-div-right, mul-add-mod-self-right, not-suc-le-zero, le-of-suc-le-suc, one-le-pow, mul-le-mul-left, mul-comm}
 use native.Mathlib.Omega.{arith}
 use lib.ListN.{length, getD, take, drop}
 use lib.Arith.{digits-lt, digits-div, digits-mod}
@@ -14,11 +14,14 @@ use lib.Bits.{bitAnd, bitOr, or-shifted-r, and-mask}
 use lib.Seq.{length-take-le, take-add, take-at}
 use native.Mathlib.Numerals.{add-one}
 use Rattle.words.proofs.Below.{Below, below-take}
-use Rattle.stream.specs.Inner.{value, digits}
+use Rattle.stream.specs.Digits.{value, digits}
 
 pub pow-mul : (a m n : ℕ) → a ^ (m * n) ≡ (a ^ m) ^ n
 pow-mul a m zero = ap (λ (x : ℕ). a ^ x) (mul-zero m) ∙ pow-zero a ∙ sym (pow-zero (a ^ m))
 pow-mul a m (suc n) = ap (λ (x : ℕ). a ^ x) (mul-suc m n) ∙ pow-add a (m * n) m ∙ ap (λ (x : ℕ). x * a ^ m) (pow-mul a m n) ∙ sym (pow-suc (a ^ m) n)
+
+pow-above : (b n : ℕ) → 0 < b → 0 < b ^ n
+pow-above b n p = one-le-pow n b p
 
 pub digits-length : (b n v : ℕ) → length (digits b n v) ≡ n
 unfolding digits
@@ -82,6 +85,15 @@ digits-append b (suc n) m y x p h =
     rw suc-add
     (ap₂ (λ (k : ℕ) (ks : List ℕ). k ∷ ks) (ap (λ (d : ℕ). d % b) e ∙ mul-add-mod-self-right (y * b ^ n) b x)
     (ap (λ (d : ℕ). digits b (n + m) (d / b)) e ∙ ap (digits b (n + m)) (mul-add-div-right p (y * b ^ n) x) ∙ digits-append b n m y (x / b) p (div-lt-iff-lt-mul p .1 (rw pow-suc at h))))
+
+-- what stands above the first n digits does not matter to them
+pub digits-low : (b n v : ℕ) → 0 < b → digits b n (v % b ^ n) ≡ digits b n v
+unfolding digits
+digits-low b n v p =
+    let rest : v % b ^ n < b ^ n = mod-lt v (pow-above b n p) in
+    sym (append-nil (digits b n (v % b ^ n)))
+    ∙ sym (digits-append b n 0 (v / b ^ n) (v % b ^ n) p rest)
+    ∙ ap₂ (digits b) (add-zero n) (div-add-mod' v (b ^ n))
 
 -- the digits of a number in two runs
 pub digits-split : (b n m v : ℕ) → digits b (n + m) v ≡ digits b n v ++ digits b m (v / b ^ n)

@@ -15,7 +15,7 @@ use Rattle.words.specs.Bits.{bitOf}
 use Rattle.words.proofs.Bits.{gather-bits}
 use Rattle.words.proofs.Below.{Below}
 use Rattle.stream.specs.Stream.{streamBit, cut, octetsFor, packed, unpacked}
-use Rattle.stream.specs.Inner.{value, digits}
+use Rattle.stream.specs.Digits.{value, digits}
 use Rattle.stream.proofs.Numbers.{pow-mul, digits-below, value-lt, digits-value, value-digits}
 
 -- cutting a number

@@ -1,15 +1,49 @@
--- What private functions say of themselves: no contract of a public call cites this file, and no theorem's statement.
--- A stream of bits as one number, by its digits in a base, lowest first.
--- Own rule: none. Cited by the functions of packing that join and spread pieces. Assumes nothing.
---   value b s    == the number whose digits in base b are s
---   digits b n v == the first n digits of v in base b
-use Prim.Native.Nat.{ℕ, zero, suc, _+_, _*_, _/_, _%_}
+-- What private functions of the packings say of themselves: no contract of a public call cites this file.
+-- The last of all refusals, 7, by itself, what a service adds to a text, and the count that goes with a packing.
+-- Own rule: none. Cited by the functions that store into a lent buffer, and by those that count. Assumes nothing.
+--   countedAs a n         == the answer a of a packing, with the length count n
+--   isPage service        == whether a text is laid over a page under the service
+--   addsUnder service s   == whether the service adds a CR to the septets s
+--   givenAnswers xs room, givenLeaves xs out == what storing xs answers, and leaves in the buffer, where only 7 can refuse
+use Prim.Native.Nat.{ℕ}
+use mathlib.Core.Bool.{Bool, true, false}
 use mathlib.Core.List.{List, [], _∷_}
+use lib.ListN.{length}
+use lib.Dec.{ltb}
+use Rattle.words.specs.declared.Service.{Service}
+use Rattle.words.specs.declared.Service.the-variants.{ShortMessage, Broadcast, Ussd, OldPage}
+use Rattle.words.specs.declared.Filled.{Filled}
+use Rattle.words.specs.declared.Filled.the-variants.{Done, Refused}
+use Rattle.words.specs.declared.Refusal.the-variants.{NoRoom}
+use Rattle.words.specs.Lists.{laid}
+use Rattle.words.specs.Judging.{Rule, when, verdict, settle}
+use Rattle.stream.specs.UssdPacking.{addsCr}
+use Rattle.stream.specs.declared.Packed.{Packed}
+use Rattle.stream.specs.declared.Packed.the-variants as packed
 
-unfoldable pub value : ℕ → List ℕ → ℕ
-value b [] = 0
-value b (x ∷ xs) = value b xs * b + x
+abbrev pub countedAs : Filled → ℕ → Packed
+countedAs (Done octets) n = packed.Done octets n
+countedAs (Refused r) n = packed.Refused r
 
-unfoldable pub digits : ℕ → ℕ → ℕ → List ℕ
-digits b zero v = []
-digits b (suc n) v = v % b ∷ digits b n (v / b)
+-- a text is laid over a page
+abbrev pub isPage : Service → Bool
+isPage ShortMessage = false
+isPage Broadcast = true
+isPage Ussd = false
+isPage OldPage = false
+
+-- the service adds a CR to the septets s
+abbrev pub addsUnder : Service → List ℕ → Bool
+addsUnder ShortMessage s = false
+addsUnder Broadcast s = false
+addsUnder Ussd s = addsCr s
+addsUnder OldPage s = false
+
+abbrev pub givenRules : List ℕ → ℕ → List Rule
+givenRules xs room = when (ltb room (length xs)) NoRoom ∷ []
+
+unfoldable pub givenAnswers : List ℕ → ℕ → Filled
+givenAnswers xs room = settle (verdict (givenRules xs room)) Refused (Done (length xs))
+
+unfoldable pub givenLeaves : List ℕ → List ℕ → List ℕ
+givenLeaves xs out = settle (verdict (givenRules xs (length out))) (λ r. out) (laid xs out)

@@ -3,4 +3,10 @@ pub mod UssdPacking
 pub mod Pages
 pub mod OldPage
 pub mod Ucs2
+pub mod Digits
+pub mod Groups
+pub mod Answers
+pub mod SeptetCalls
+pub mod ArrayCalls
+pub mod UnitCalls
 pub mod Inner

@@ -3,8 +3,10 @@
 --   oldPageSeptets o == the text of the old page whose octets are o: every closing zero septet is dropped
 use Prim.Native.Nat.{ℕ}
 use mathlib.Core.List.{List}
+use Rattle.words.specs.declared.Service.the-variants.{OldPage}
+use Rattle.words.specs.Sizes.{mostSeptets}
 use Rattle.words.specs.Closing.{withoutClosing}
 use Rattle.stream.specs.Stream.{unpacked}
 
 unfoldable pub oldPageSeptets : List ℕ → List ℕ
-oldPageSeptets o = withoutClosing 0 (unpacked 93 o)
+oldPageSeptets o = withoutClosing 0 (unpacked (mostSeptets OldPage) o)

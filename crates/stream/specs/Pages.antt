@@ -6,16 +6,19 @@
 use Prim.Native.Nat.{ℕ}
 use mathlib.Core.List.{List}
 use lib.ListN.{replicate}
+use Rattle.words.specs.declared.Service.the-variants.{Broadcast}
+use Rattle.words.specs.Sizes.{mostSeptets}
 use Rattle.words.specs.Lists.{laid}
 use Rattle.words.specs.Closing.{withoutClosing}
 use Rattle.stream.specs.Stream.{packed, unpacked}
+use Rattle.stream.specs.UssdPacking.{cr}
 
 -- "a page starts as 93 septets, all CR, and the text is laid over its front"
 unfoldable pub page : List ℕ → List ℕ
-page s = laid s (replicate 93 13)
+page s = laid s (replicate (mostSeptets Broadcast) cr)
 
 unfoldable pub pageOctets : List ℕ → List ℕ
 pageOctets s = packed (page s)
 
 unfoldable pub pageSeptets : List ℕ → List ℕ
-pageSeptets o = withoutClosing 13 (unpacked 93 o)
+pageSeptets o = withoutClosing cr (unpacked (mostSeptets Broadcast) o)

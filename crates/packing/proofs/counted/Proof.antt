@@ -1,7 +1,7 @@
 -- By the two cases of the answer.
 use mathlib.Core.Path.{sym, ap}
 use Rattle.words.specs.declared.Filled.{Filled}
-use Rattle.packing.specs.Inner.{countedAs}
+use Rattle.stream.specs.Inner.{countedAs}
 use borrow.Author.Needs.{needs}
 use Rattle.packing.proofs.counted.Statement.{statement}
 use Rattle.packing.proofs.counted.Tie as tie

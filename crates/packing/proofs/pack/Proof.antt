@@ -1,24 +1,31 @@
--- The tests are the rules in their order; past them the septets that the service sends are packed, and the room is judged there.
+-- The tests are the rules in their order; past them the text is packed, or its page, and the room is judged there.
 use Prim.Native.Nat.{ℕ, _≤_, _<_}
-use mathlib.Core.Path.{_≡_, refl, sym, ap, _∙_, subst}
-use mathlib.Core.Bool.{true, false}
+use mathlib.Core.Path.{_≡_, refl, sym, ap, ap₂, _∙_, subst}
+use mathlib.Core.Bool.{Bool, true, false}
 use mathlib.Core.List.{List}
 use native.Mathlib.Omega.{arith}
 use borrow.Author.Tests.{lt-ltb, le-ltb}
 use lib.Dec.{leb}
-use lib.ListN.{length}
+use lib.ListN.{length, take}
+use lib.Seq.{take-length}
 use Rattle.words.specs.declared.Refusal.the-variants.{NoSeptet}
+use Rattle.words.specs.declared.Filled.{Filled}
 use Rattle.words.specs.Sizes.{mostSeptets, isOldPage}
 use Rattle.words.specs.Lists.{firstPlace}
 use Rattle.words.specs.Judging.{verdict}
 use Rattle.words.proofs.Below.{Below}
 use Rattle.stream.specs.Stream.{packed}
-use Rattle.packing.specs.declared.Packed.the-variants.{Refused}
-use Rattle.packing.specs.SeptetCalls.{octetsOf, packRules, packAnswers, packLeaves}
-use Rattle.packing.specs.Inner.{countedAs, withCrs}
-use Rattle.packing.proofs.Given.{Gives}
-use Rattle.packing.proofs.Calls.{none-high, pack-passed}
-use Rattle.packing.proofs.Arrays.{sent-most, sent-crs, sent-octets}
+use Rattle.stream.specs.declared.Packed.the-variants.{Refused}
+use Rattle.stream.specs.Digits.{lowOf}
+use Rattle.stream.specs.UssdPacking.{withCr}
+use Rattle.stream.specs.Pages.{page}
+use Rattle.stream.specs.SeptetCalls.{octetsOf, countOf, packRules, packAnswers, packLeaves}
+use Rattle.stream.specs.Inner.{countedAs, addsUnder}
+use Rattle.stream.proofs.Given.{Gives}
+use Rattle.stream.proofs.Calls.{none-high, pack-passed}
+use Rattle.stream.proofs.LowBits.{low-same}
+use Rattle.stream.proofs.Pages.{page-below}
+use Rattle.stream.proofs.Sent.{most-182, page-most, page-octets, closed-octets}
 use borrow.Author.Needs.{needs}
 use Rattle.packing.proofs.pack.Statement.{statement}
 use Rattle.packing.proofs.pack.Tie as tie
@@ -69,19 +76,31 @@ returns-3 c =
 most : (c : tie.Else3) → let a = c .before .before .before .before .before .before .before .before .args in length (a .septets .now) ≤ mostSeptets (a .service)
 most c = omega (arith, c .before .most-septets .ensures)
 
-septets-sent-requires : tie.Need-septets-sent-requires
-septets-sent-requires c κs = most c
-
-pack-sent-requires : tie.Need-pack-sent-requires
-pack-sent-requires c κs =
-    let sent = c .before in
-    let judged = sent .before in
-    let a = judged .before .before .before .before .before .before .before .before .args in
-    let within = sent-most (a .septets .now) (a .service) (most judged) in
-    (below (judged .before .before), omega (arith, sent .septets-sent .ensures))
-
 length-count-requires : tie.Need-length-count-requires
 length-count-requires c κs = search needs
+
+is-page-requires : tie.Need-is-page-requires
+is-page-requires c κs = search needs
+
+-- past the rules, what is stored is the service's octets
+done : (c : tie.Else3) {stored : Filled} {left xs : List ℕ} → let a = c .before .before .before .before .before .before .before .before .args in
+    xs ≡ octetsOf (a .service) (a .septets .now) → Gives xs (a .out .now) stored left
+    → (countedAs stored (countOf (a .service) (a .septets .now)) ≡ packAnswers (a .service) (a .septets .now) (length (a .out .now))) × (left ≡ packLeaves (a .service) (a .septets .now) (a .out .now))
+done c {stored} {left} same gives =
+    let judged = c .before .before in
+    let a = judged .before .before .before .before .before .before .args in
+    pack-passed (a .service) (a .septets .now) (a .out .now) (new (judged .before .before)) (low judged) (most c)
+    (subst (λ (l : List ℕ). Gives l (a .out .now) stored left) same gives)
+
+page-of-requires : tie.Need-page-of-requires
+page-of-requires c κs =
+    let asked = c .before in
+    let judged = asked .before .before in
+    let a = judged .before .before .before .before .before .before .before .before .args in
+    (search needs, omega (arith, most judged, page-most (a .service) (sym (asked .is-page .ensures) ∙ c .if4 .taken)))
+
+send-page-requires : tie.Need-send-page-requires
+send-page-requires c κs = search needs
 
 counted-requires : tie.Need-counted-requires
 counted-requires c κs = search needs
@@ -91,20 +110,52 @@ same-length c = search needs
 
 returns-4 : tie.Need-returns-4
 returns-4 c =
-    let count = c .before in
-    let stored = count .before .before .before in
-    let sent = stored .before .before in
-    let judged = sent .before in
-    let low-judged = judged .before .before in
-    let a = low-judged .before .before .before .before .before .before .args in
+    let sent = c .before .before .before in
+    let paged = sent .before .before in
+    let then = paged .before in
+    let asked = then .before in
+    let count = asked .before in
+    let judged = count .before in
+    let a = judged .before .before .before .before .before .before .before .before .args in
     let s : List ℕ = a .septets .now in
-    let new-judged : isOldPage (a .service) ≡ false = new (low-judged .before .before) in
-    let same : packed (withCrs (sent .septets-sent .result) s) ≡ octetsOf (a .service) s =
-    ap (λ (n : ℕ). packed (withCrs n s)) (sent .septets-sent .ensures) ∙ ap packed (sent-crs s (a .service) (most judged)) ∙ sent-octets s (a .service) new-judged in
-    let p =
-    pack-passed (a .service) s (a .out .now) new-judged (low low-judged) (most judged)
-    (subst (λ (l : List ℕ). Gives l (a .out .now) (stored .pack-sent .result) (stored .pack-sent .last .1 .1 .0)) same (stored .pack-sent .ensures)) in
-    (c .counted .ensures ∙ ap (countedAs (stored .pack-sent .result)) (count .length-count .ensures) ∙ p .0, p .1)
+    let whole : take (length s) s ≡ s = take-length s in
+    let same : packed (lowOf 7 (paged .page-of .result)) ≡ octetsOf (a .service) s =
+    ap (λ (l : List ℕ). packed (lowOf 7 l)) (paged .page-of .ensures ∙ ap page whole)
+    ∙ ap packed (low-same 7 (page s) (page-below s (below (judged .before .before))))
+    ∙ page-octets (a .service) s (sym (asked .is-page .ensures) ∙ then .if4 .taken) in
+    let p = done judged same (sent .send-page .ensures) in
+    (c .counted .ensures ∙ ap (countedAs (sent .send-page .result)) (count .length-count .ensures) ∙ p .0, p .1)
+
+adds-under-requires : tie.Need-adds-under-requires
+adds-under-requires c κs = search needs
+
+send-requires : tie.Need-send-requires
+send-requires c κs =
+    let judged = c .before .before .before .before .before in
+    omega (arith, most judged, most-182 (judged .before .before .before .before .before .before .before .before .args .service))
+
+counted-requires-2 : tie.Need-counted-requires-2
+counted-requires-2 c κs = search needs
+
+same-length-2 : tie.Need-same-length-2
+same-length-2 c = search needs
+
+returns-5 : tie.Need-returns-5
+returns-5 c =
+    let sent = c .before .before .before in
+    let added = sent .before .before in
+    let else = added .before in
+    let asked = else .before in
+    let count = asked .before in
+    let judged = count .before in
+    let a = judged .before .before .before .before .before .before .before .before .args in
+    let s : List ℕ = a .septets .now in
+    let whole : take (length s) (lowOf 7 s) ≡ s = ap (take (length s)) (low-same 7 s (below (judged .before .before))) ∙ take-length s in
+    let same : packed (withCr (added .adds-under .result) (lowOf 7 s)) ≡ octetsOf (a .service) s =
+    ap₂ (λ (b : Bool) (l : List ℕ). packed (withCr b l)) (added .adds-under .ensures ∙ ap (addsUnder (a .service)) whole) (low-same 7 s (below (judged .before .before)))
+    ∙ closed-octets (a .service) s (sym (asked .is-page .ensures) ∙ else .if4 .left) (new (judged .before .before .before .before)) in
+    let p = done judged same (sent .send .ensures) in
+    (c .counted2 .ensures ∙ ap (countedAs (sent .send .result)) (count .length-count .ensures) ∙ p .0, p .1)
 
 pub pack-spec : {M : Type 1} → statement M
 pack-spec =
@@ -116,9 +167,15 @@ pack-spec =
     returns-2
     most-septets-requires
     returns-3
-    septets-sent-requires
-    pack-sent-requires
     length-count-requires
+    is-page-requires
+    page-of-requires
+    send-page-requires
     counted-requires
     same-length
-    returns-4)
+    returns-4
+    adds-under-requires
+    send-requires
+    counted-requires-2
+    same-length-2
+    returns-5)

@@ -5,7 +5,7 @@ use mathlib.Core.Logic.{⊎-elim}
 use mathlib.Core.List.{List}
 use native.Mathlib.Omega.{arith}
 use lib.ListN.{length}
-use Rattle.packing.proofs.Ends.{Put, put-none, put-run, put-same, put-long, put-end}
+use Rattle.stream.proofs.Ends.{Put, put-none, put-run, put-same, put-long, put-end}
 use borrow.Author.Needs.{needs}
 use Rattle.packing.proofs.pieces.put_end.Statement.{statement}
 use Rattle.packing.proofs.pieces.put_end.Tie as tie
@@ -41,28 +41,28 @@ twos-long c =
     let a = c .before .before .before .args in
     put-long (a .out .now) (a .at) (a .v) (search needs) (twos c) (omega arith)
 
-spread-requires : tie.Need-spread-requires
-spread-requires c κs = search needs
+put-four-requires : tie.Need-put-four-requires
+put-four-requires c κs = search needs
 
 add-k : tie.Need-add-k
 add-k c = search needs
 
-spread-requires-2 : tie.Need-spread-requires-2
-spread-requires-2 c κs = let at = c .before .before in omega (arith, fours-long at, fours at .next)
+put-two-requires : tie.Need-put-two-requires
+put-two-requires c κs = let at = c .before .before in omega (arith, fours-long at, fours at .next)
 
 add-k-2 : tie.Need-add-k-2
 add-k-2 c = let at = c .before .before .before .before .before .before .before in omega (arith, fours at .next)
 
-spread-requires-3 : tie.Need-spread-requires-3
-spread-requires-3 c κs = let at = c .before .before in omega (arith, twos-long at, twos at .next)
+put-one-requires : tie.Need-put-one-requires
+put-one-requires c κs = let at = c .before .before in omega (arith, twos-long at, twos at .next)
 
 -- after the last octet
 ones : (c : tie.After-slice-known4) → let a = c .before .before .before .before .before .before .before .before .args in
-    Put (a .out .now) (a .at) (a .v) (a .n) (c .before .before .spread3 .last .1 .0) (c .before .before .before .before .before .if2 .w / 256) (c .before .before .before .before .before .if2 .k + 1)
+    Put (a .out .now) (a .at) (a .v) (a .n) (c .before .before .put-one .last .1 .0) (c .before .before .before .before .before .if2 .w / 256) (c .before .before .before .before .before .if2 .k + 1)
 ones c =
     let at = c .before .before .before .before .before in
     let a = at .before .before .before .args in
-    put-run (a .out .now) (a .at) (a .v) (search needs) 1 (twos at) (omega arith) (c .before .before .spread3 .ensures) refl refl
+    put-run (a .out .now) (a .at) (a .v) (search needs) 1 (twos at) (omega arith) (c .before .before .put-one .ensures) refl refl
 
 same-length : tie.Need-same-length
 same-length c =
@@ -86,11 +86,11 @@ pub put-end-spec : {M : Type 1} → statement M
 put-end-spec =
     tie.close
     (tie.spec
-    spread-requires
+    put-four-requires
     add-k
-    spread-requires-2
+    put-two-requires
     add-k-2
-    spread-requires-3
+    put-one-requires
     same-length
     returns
     same-length-2

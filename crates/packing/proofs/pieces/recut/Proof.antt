@@ -7,11 +7,10 @@ use native.Mathlib.Nat.{mul-zero}
 use lib.ListN.{length, take, drop, length-map}
 use Rattle.words.specs.Lists.{laid}
 use Rattle.words.proofs.Laid.{laid-then}
-use Rattle.stream.specs.Inner.{value, digits}
-use Rattle.packing.specs.Inner.{lowOf}
+use Rattle.stream.specs.Digits.{value, digits, lowOf}
 use Rattle.stream.proofs.Numbers.{digits-length, group-within, recut-group}
 use borrow.Author.Needs.{needs}
-use Rattle.packing.proofs.LowBits.{low-below}
+use Rattle.stream.proofs.LowBits.{low-below}
 use Rattle.packing.proofs.pieces.recut.Statement.{statement}
 use Rattle.packing.proofs.pieces.recut.Tie as tie
 

@@ -4,8 +4,7 @@ use mathlib.Core.Path.{_≡_, sym, ap₂, _∙_}
 use mathlib.Core.List.{List, _++_}
 use native.Mathlib.Omega.{arith}
 use lib.ListN.{take, drop}
-use Rattle.stream.specs.Inner.{value, digits}
-use Rattle.packing.specs.Inner.{lowOf}
+use Rattle.stream.specs.Digits.{value, digits, lowOf}
 use borrow.Author.Needs.{needs}
 use Rattle.packing.proofs.pieces.recut_group.Statement.{statement}
 use Rattle.packing.proofs.pieces.recut_group.Tie as tie

@@ -7,8 +7,8 @@ use native.Mathlib.Omega.{arith}
 use lib.Bits.{bitOr}
 use lib.ListN.{length, take, drop, getD}
 use Rattle.words.proofs.Below.{Below}
-use Rattle.stream.specs.Inner.{value}
-use Rattle.packing.proofs.Ends.{Taken, taken-none, taken-one, taken-run, taken-same, taken-end}
+use Rattle.stream.specs.Digits.{value}
+use Rattle.stream.proofs.Ends.{Taken, taken-none, taken-one, taken-run, taken-same, taken-end}
 use borrow.Author.Needs.{needs}
 use Rattle.packing.proofs.pieces.take_end.Statement.{statement}
 use Rattle.packing.proofs.pieces.take_end.Tie as tie
@@ -60,11 +60,11 @@ wide-requires c κs = search needs
 sub-k-2 : tie.Need-sub-k-2
 sub-k-2 c = let at = c .before .before in omega (arith, ones at .next)
 
-join-requires : tie.Need-join-requires
-join-requires c κs = let at = c .before .before .before in omega (arith, ones at .next)
+join-two-requires : tie.Need-join-two-requires
+join-two-requires c κs = let at = c .before .before .before in omega (arith, ones at .next)
 
-join-requires-2 : tie.Need-join-requires-2
-join-requires-2 c κs = omega arith
+join-four-requires : tie.Need-join-four-requires
+join-four-requires c κs = omega arith
 
 returns : tie.Need-returns
 returns c =
@@ -74,8 +74,8 @@ returns c =
     let end : ℕ = a .at + a .n in
     let within : end ≤ length o = search needs in
     let last = twos at in
-    let all : Taken o end (a .n) (bitOr (at .if2 .v * 2 ^ 32 % 2 ^ 64) (c .join2 .result)) (a .at) =
-    taken-run o end (below (at .before .before)) within 4 (c .join2 .result) last (omega arith) (omega arith) (omega (arith, last .next)) (c .join2 .ensures) refl in
+    let all : Taken o end (a .n) (bitOr (at .if2 .v * 2 ^ 32 % 2 ^ 64) (c .join-four .result)) (a .at) =
+    taken-run o end (below (at .before .before)) within 4 (c .join-four .result) last (omega arith) (omega arith) (omega (arith, last .next)) (c .join-four .ensures) refl in
     taken-end o end (below (at .before .before)) within (a .at) all refl
 
 returns-2 : tie.Need-returns-2
@@ -96,7 +96,7 @@ take-end-spec =
     shared-slice-read-wide
     wide-requires
     sub-k-2
-    join-requires
-    join-requires-2
+    join-two-requires
+    join-four-requires
     returns
     returns-2)

@@ -5,8 +5,8 @@ use mathlib.Core.Bool.{true}
 use native.Mathlib.Omega.{arith}
 use Rattle.words.specs.declared.Service.{Service}
 use Rattle.words.specs.declared.Service.the-variants.{Ussd}
-use Rattle.packing.specs.SeptetCalls.{septetsFit}
-use Rattle.packing.proofs.Calls.{fit-ussd}
+use Rattle.stream.specs.SeptetCalls.{septetsFit}
+use Rattle.stream.proofs.Calls.{fit-ussd}
 use borrow.Author.Needs.{needs}
 use Rattle.packing.proofs.septets.septets_held.Statement.{statement}
 use Rattle.packing.proofs.septets.septets_held.Tie as tie

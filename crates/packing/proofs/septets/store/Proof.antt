@@ -6,7 +6,7 @@ use native.Mathlib.Omega.{arith}
 use lib.ListN.{length, take, drop, drop-of-length-le}
 use lib.Seq.{length-take-le}
 use Rattle.words.proofs.Laid.{Laying, lay-none, lay-front, lay-end}
-use Rattle.packing.proofs.Given.{given-short, given-done}
+use Rattle.stream.proofs.Given.{given-short, given-done}
 use borrow.Author.Needs.{needs}
 use Rattle.packing.proofs.septets.store.Statement.{statement}
 use Rattle.packing.proofs.septets.store.Tie as tie

@@ -1,21 +1,19 @@
 -- Whole groups and what is left over make up the number that the octets write, so that its septets follow each other.
-use Prim.Native.Nat.{ℕ, _+_, _*_, _/_, _%_, _≤_, _<_, _^_}
-use mathlib.Core.Path.{_≡_, sym, ap, ap₂, _∙_, subst}
+use Prim.Native.Nat.{ℕ, _+_, _*_, _/_, _%_, _≤_}
+use mathlib.Core.Path.{_≡_, sym, ap, ap₂, _∙_}
 use mathlib.Core.List.{List, _++_, append-nil}
 use native.Mathlib.Omega.{arith}
-use native.Mathlib.Nat.{lt-of-lt-of-le}
-use lib.Pow.{pow-mono}
 use lib.ListN.{length, take, drop, length-drop, take-append-drop}
 use lib.Seq.{take-all, length-take-le}
 use Rattle.words.specs.Lists.{laid}
 use Rattle.words.proofs.Laid.{laid-then}
 use Rattle.words.proofs.Below.{Below, below-take}
 use Rattle.stream.specs.Stream.{octetsFor, unpacked}
-use Rattle.stream.specs.Inner.{value, digits}
-use Rattle.stream.proofs.Numbers.{pow-mul, digits-length, recut-append, digits-front}
+use Rattle.stream.specs.Digits.{value, digits}
+use Rattle.stream.specs.Groups.{apart}
+use Rattle.stream.proofs.Numbers.{digits-length, recut-append, digits-front}
 use Rattle.stream.proofs.Stream.{unpacked-digits}
-use Rattle.packing.proofs.Folds.{octets-fit, septets-apart}
-use Rattle.packing.proofs.LowBits.{low-same}
+use Rattle.stream.proofs.LowBits.{low-same, apart-octets}
 use borrow.Author.Needs.{needs}
 use Rattle.packing.proofs.septets.unpack_into.Statement.{statement}
 use Rattle.packing.proofs.septets.unpack_into.Tie as tie
@@ -35,8 +33,8 @@ unpacked-parts o h n e =
     ∙ sym (unpacked-digits n o h)
 
 -- the first octets of septets that lie apart are the septets
-first-apart : (v k : ℕ) → k ≤ 8 → digits 256 k (value 256 (digits 128 8 v)) ≡ digits 128 k v
-first-apart v k h = sym (digits-front 256 8 k (value 256 (digits 128 8 v)) h) ∙ ap (take k) (septets-apart v) ∙ digits-front 128 8 k v h
+first-apart : (v k : ℕ) → k ≤ 8 → digits 256 k (apart v) ≡ digits 128 k v
+first-apart v k h = sym (digits-front 256 8 k (apart v) h) ∙ ap (take k) (apart-octets v) ∙ digits-front 128 8 k v h
 
 below : (c : tie.After-shared-slice-known) → Below 256 (c .before .args .octets .now)
 below c k = c .shared-slice-known .given k .fits
@@ -61,14 +59,7 @@ unfolding octetsFor
 take-end-requires c κs = omega arith
 
 stretch-requires : tie.Need-stretch-requires
-unfolding octetsFor
-stretch-requires c κs =
-    let known = c .before .before .before .before .before .before .before in
-    let a = known .before .args in
-    let r : ℕ = a .n % 8 in
-    let fits : value 256 (take r (drop (7 * (a .n / 8)) (a .octets .now))) < 2 ^ (8 * r) =
-    rw (pow-mul 2 8 r) (octets-fit (a .octets .now) (7 * (a .n / 8)) r (below known) (omega arith)) in
-    subst (λ (v : ℕ). v < 2 ^ 56) (sym (c .take-end .ensures)) (lt-of-lt-of-le fits (pow-mono {j = 56} (omega arith)))
+stretch-requires c κs = search needs
 
 mul-put-end : tie.Need-mul-put-end
 mul-put-end c = search needs

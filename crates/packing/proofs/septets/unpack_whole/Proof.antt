@@ -1,22 +1,20 @@
--- Rule 4 is judged whole, then the room; past them all septets are laid over the front of out, and those that are left are counted there.
+-- Rule 4 is judged whole, then the room; past them all septets are laid over the front of out.
 use Prim.Native.Nat.{ℕ, _≤_, _<_}
 use mathlib.Core.Path.{_≡_, refl, sym, ap, _∙_}
 use mathlib.Core.Bool.{true, false}
 use mathlib.Core.List.{List}
 use native.Mathlib.Omega.{arith}
 use borrow.Author.Tests.{not-true, not-false, lt-ltb, le-ltb}
-use lib.ListN.{length, take, drop}
-use lib.Seq.{take-at}
+use lib.ListN.{length}
 use Rattle.words.specs.declared.Filled.the-variants.{Done}
 use Rattle.words.specs.Lists.{laid}
 use Rattle.words.specs.Judging.{verdict}
 use Rattle.stream.specs.Stream.{octetsFor, unpacked}
 use Rattle.stream.proofs.Stream.{unpacked-length}
-use Rattle.packing.specs.SeptetCalls.{septetsFit}
-use Rattle.packing.specs.ArrayCalls.{allSeptets, allRules, allAnswers, allLeaves}
-use Rattle.packing.specs.Inner.{keptCount}
-use Rattle.packing.proofs.Calls.{fit-held}
-use Rattle.packing.proofs.Arrays.{kept-count, held-septets}
+use Rattle.stream.specs.SeptetCalls.{septetsFit}
+use Rattle.stream.specs.ArrayCalls.{allSeptets, allRules, allAnswers, allLeaves}
+use Rattle.stream.proofs.Calls.{fit-held}
+use Rattle.stream.proofs.Arrays.{held-septets}
 use borrow.Author.Needs.{needs}
 use Rattle.packing.proofs.septets.unpack_whole.Statement.{statement}
 use Rattle.packing.proofs.septets.unpack_whole.Tie as tie
@@ -61,27 +59,18 @@ unpack-into-requires c κs =
     let a = held .before .before .before .before .before .args in
     (fit-held (a .service) (length (a .octets .now)) (a .count) (fit (held .before)) ∙ ap octetsFor (sym (held .septets-held .ensures)), search needs)
 
-text-length-requires : tie.Need-text-length-requires
-text-length-requires c κs = search needs
-
 same-length : tie.Need-same-length
 same-length c = search needs
 
 returns-3 : tie.Need-returns-3
-unfolding allRules allAnswers allLeaves verdict laid
+unfolding allRules allAnswers allLeaves verdict
 returns-3 c =
-    let into = c .before .before .before .before in
+    let into = c .before .before in
     let held = into .before .before .before in
     let a = held .before .before .before .before .before .args in
     let o : List ℕ = a .octets .now in
-    let n : ℕ = held .septets-held .result in
-    let xs : List ℕ = unpacked n o in
     let room : length (allSeptets (a .service) (a .count) o) ≤ length (a .out .now) = omega (arith, size held) in
-    let front : take n (into .unpack-into .last .1 .1 .0) ≡ xs = ap (take n) (into .unpack-into .ensures) ∙ take-at xs (drop (length xs) (a .out .now)) n (unpacked-length n o) in
-    simp (fit (held .before), le-ltb _ _ room) (
-      ap Done (c .text-length .ensures ∙ ap (keptCount (a .service)) (front ∙ all held) ∙ kept-count (a .service) (a .count) o),
-      into .unpack-into .ensures ∙ ap (λ (l : List ℕ). laid l (a .out .now)) (all held),
-    )
+    simp (fit (held .before), le-ltb _ _ room) (ap Done (sym (size held)), into .unpack-into .ensures ∙ ap (λ (l : List ℕ). laid l (a .out .now)) (all held))
 
 pub unpack-whole-spec : {M : Type 1} → statement M
 unpack-whole-spec =
@@ -92,6 +81,5 @@ unpack-whole-spec =
     septets-held-requires
     returns-2
     unpack-into-requires
-    text-length-requires
     same-length
     returns-3)

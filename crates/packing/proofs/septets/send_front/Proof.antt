@@ -1,0 +1,165 @@
+-- Whole groups are recut, and what is left of the first n septets, with the CR above it, is stored as the octets after them.
+use Prim.Native.Nat.{ℕ, _+_, _-_, _*_, _/_, _%_, _^_, _≤_, _<_}
+use mathlib.Core.Path.{_≡_, refl, sym, ap, _∙_}
+use mathlib.Core.List.{List, _++_}
+use native.Mathlib.Omega.{arith}
+use lib.Bits.{bitAnd}
+use lib.ListN.{length, take, drop, length-map, length-drop}
+use lib.Seq.{take-take, length-take-le}
+use Rattle.words.specs.Lists.{laid}
+use Rattle.words.proofs.Below.{Below, below-take, below-drop}
+use Rattle.stream.specs.Stream.{octetsFor, packed}
+use Rattle.stream.specs.Digits.{value, digits, lowOf}
+use Rattle.stream.specs.UssdPacking.{withCr}
+use Rattle.stream.proofs.Stream.{packed-length}
+use Rattle.stream.proofs.LowBits.{low-below}
+use Rattle.stream.proofs.Given.{given-short, given-done}
+use Rattle.stream.proofs.Sent.{cr-length, sent-count, sent-whole, sent-end, first-septets, ones, ones-above-0, front-rest}
+use borrow.Author.Needs.{needs}
+use Rattle.packing.proofs.septets.send_front.Statement.{statement}
+use Rattle.packing.proofs.septets.send_front.Tie as tie
+
+-- the septets that are packed, and how many they are
+abbrev text : tie.Start → List ℕ
+text c = take (c .args .n) (lowOf 7 (c .args .septets .now))
+
+abbrev count : tie.Start → ℕ
+count c = c .args .n
+
+size : (c : tie.Start) → length (text c) ≡ count c
+size c = length-take-le (c .args .n) (lowOf 7 (c .args .septets .now)) (omega (arith, c .pre, length-map (c .args .septets .now) (λ (x : ℕ). x % 128)))
+
+below : (c : tie.Start) → Below 128 (text c)
+below c = below-take 128 (lowOf 7 (c .args .septets .now)) (low-below 7 (c .args .septets .now)) (c .args .n)
+
+-- the octets that they take
+octets : (c : tie.After-octets-for) → let start = c .before .before .before .before in c .octets-for .result ≡ octetsFor (length (withCr (start .args .cr) (text start)))
+octets c = let start = c .before .before .before .before in c .octets-for .ensures ∙ ap octetsFor (c .before .with-cr .ensures (text start) (size start))
+
+within : (c : tie.After-octets-for) → let start = c .before .before .before .before in (7 * (count start / 8) ≤ c .octets-for .result) × (c .octets-for .result ≤ 7 * (count start / 8) + 7)
+within c =
+    let start = c .before .before .before .before in
+    let all : ℕ = length (withCr (start .args .cr) (text start)) in
+    let least : count start ≤ all = omega (arith, cr-length (start .args .cr) (text start), size start) in
+    let most : all ≤ count start + 1 = omega (arith, cr-length (start .args .cr) (text start), size start) in
+    omega (arith, octets c, sent-count (count start) all least most)
+
+with-cr-requires : tie.Need-with-cr-requires
+with-cr-requires c κs = search needs
+
+octets-for-requires : tie.Need-octets-for-requires
+octets-for-requires c κs = search needs
+
+returns : tie.Need-returns
+returns c =
+    let start = c .before .before .before .before .before in
+    let xs : List ℕ = packed (withCr (start .args .cr) (text start)) in
+    given-short xs (start .args .out .now) (omega (arith, packed-length (withCr (start .args .cr) (text start)), octets (c .before), c .if1 .taken))
+
+recut-requires : tie.Need-recut-requires
+recut-requires c κs = let w = within (c .before .before) in omega (arith, w, c .before .before .before .before .before .before .pre)
+
+mul-done : tie.Need-mul-done
+mul-done c = search needs
+
+mul-low-eight : tie.Need-mul-low-eight
+mul-low-eight c = search needs
+
+low-eight-requires : tie.Need-low-eight-requires
+low-eight-requires c κs =
+    let count-of = c .before .before .before .before .before .before in
+    omega (arith, within count-of, octets count-of, c .if2 .taken)
+
+mul-v : tie.Need-mul-v
+mul-v c = search needs
+
+shl-v : tie.Need-shl-v
+shl-v c = search needs
+
+sub-v : tie.Need-sub-v
+sub-v c = ones-above-0 _ (omega arith)
+
+cr-above-requires : tie.Need-cr-above-requires
+cr-above-requires c κs = omega arith
+
+sub-put-end : tie.Need-sub-put-end
+sub-put-end c = search needs
+
+put-end-requires : tie.Need-put-end-requires
+put-end-requires c κs =
+    let w = within (c .before .before .before .before .before .before .before .before .before) in
+    search needs
+
+same-length : tie.Need-same-length
+same-length c = search needs
+
+returns-2 : tie.Need-returns-2
+returns-2 c =
+    let put = c .before .before in
+    let above = put .before .before in
+    let loaded = above .before in
+    let then = loaded .before in
+    let cut = then .before .before .before in
+    let judged = cut .before .before in
+    let counted = judged .before in
+    let start = counted .before .before .before .before in
+    let d : List ℕ = start .args .out .now in
+    let g : ℕ = count start / 8 in
+    let u : List ℕ = lowOf 7 (start .args .septets .now) in
+    let few : 8 * g + 8 ≤ length u = omega (arith, within counted, octets counted, then .if2 .taken, length-map (start .args .septets .now) (λ (x : ℕ). x % 128), start .pre) in
+    let eight : List ℕ = take 8 (drop (8 * g) u) in
+    let long : length eight ≡ 8 = length-take-le 8 (drop (8 * g) u) (omega (arith, length-drop (8 * g) u)) in
+    let rest : start .args .n - 8 * g ≡ start .args .n % 8 = omega arith in
+    let left : take (start .args .n % 8) eight ≡ drop (8 * g) (text start) =
+    take-take (start .args .n % 8) 8 (drop (8 * g) u) (omega arith)
+    ∙ sym (front-rest (start .args .n) (8 * g) u (omega arith) (omega arith) ∙ ap (λ (k : ℕ). take k (drop (8 * g) u)) rest) in
+    let v =
+    ap (λ (x : ℕ). bitAnd x (1 * 2 ^ (7 * (start .args .n % 8)) % 2 ^ 64 - 1)) (loaded .low-eight .ensures)
+    ∙ ap (bitAnd (value 128 eight)) (ones (7 * (start .args .n % 8)) (omega arith))
+    ∙ first-septets eight (start .args .n % 8) (below-take 128 (drop (8 * g) u) (below-drop 128 u (low-below 7 (start .args .septets .now)) (8 * g)) 8) (omega arith)
+    ∙ ap (value 128) left in
+    let xs : List ℕ = packed (withCr (start .args .cr) (text start)) in
+    let size-left : length (drop (8 * g) (text start)) ≡ count start % 8 = omega (arith, length-drop (8 * g) (text start), size start) in
+    let w = above .cr-above .ensures (drop (8 * g) (text start)) (below-drop 128 (text start) (below start) (8 * g)) size-left v in
+    given-done xs d (octets counted ∙ sym (packed-length (withCr (start .args .cr) (text start)))) (omega (arith, packed-length (withCr (start .args .cr) (text start)), octets counted, judged .if1 .left))
+    (sent-end (text start) (below start) (start .args .cr) (count start) (size start) d (cut .recut .last .1 .1 .1 .0) (cut .recut .ensures ∙ ap (λ (l : List ℕ). laid (digits 256 (7 * g) (value 128 l)) d) (sym (take-take (8 * g) (start .args .n) u (omega arith)))) _ _ w
+    (put .put-end .ensures ∙ ap (λ (k : ℕ). take (7 * g) (cut .recut .last .1 .1 .1 .0) ++ digits 256 (k - 7 * g) (above .cr-above .result) ++ drop (7 * g + (k - 7 * g)) (cut .recut .last .1 .1 .1 .0)) (octets counted)))
+
+same-length-2 : tie.Need-same-length-2
+same-length-2 c = search needs
+
+returns-3 : tie.Need-returns-3
+returns-3 c =
+    let then = c in
+    let cut = then .before .before .before in
+    let judged = cut .before .before in
+    let counted = judged .before in
+    let start = counted .before .before .before .before in
+    let d : List ℕ = start .args .out .now in
+    let g : ℕ = count start / 8 in
+    let u : List ℕ = lowOf 7 (start .args .septets .now) in
+    let xs : List ℕ = packed (withCr (start .args .cr) (text start)) in
+    given-done xs d (octets counted ∙ sym (packed-length (withCr (start .args .cr) (text start)))) (omega (arith, packed-length (withCr (start .args .cr) (text start)), octets counted, judged .if1 .left))
+    (sent-whole (text start) (below start) (start .args .cr) (count start) (size start) d (cut .recut .last .1 .1 .1 .0) (cut .recut .ensures ∙ ap (λ (l : List ℕ). laid (digits 256 (7 * g) (value 128 l)) d) (sym (take-take (8 * g) (start .args .n) u (omega arith)))) (omega (arith, octets counted, c .if2 .left)))
+
+pub send-front-spec : {M : Type 1} → statement M
+send-front-spec =
+    tie.close
+    (tie.spec
+    with-cr-requires
+    octets-for-requires
+    returns
+    recut-requires
+    mul-done
+    mul-low-eight
+    low-eight-requires
+    mul-v
+    shl-v
+    sub-v
+    cr-above-requires
+    sub-put-end
+    put-end-requires
+    same-length
+    returns-2
+    same-length-2
+    returns-3)

@@ -1,5 +1,0 @@
-pub mod Answers
-pub mod SeptetCalls
-pub mod ArrayCalls
-pub mod UnitCalls
-pub mod Inner

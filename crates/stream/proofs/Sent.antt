@@ -1,0 +1,166 @@
+-- The septets that are packed for a text: whole groups of eight, and what is left of them with the CR that USSD adds, as the code stores them.
+-- Assumes nothing.
+use mathlib.Core.Path.{_≡_, refl, sym, ap, ap₂, _∙_, subst}
+use mathlib.Core.Bool.{Bool, true, false, false≢true}
+use mathlib.Core.List.{List, [], _∷_, _++_, append-nil, append-assoc, map}
+use Prim.Native.Nat.{ℕ, zero, suc, _+_, _-_, _*_, _/_, _%_, _^_, _≤_, _<_}
+use native.Mathlib.Omega.{arith}
+use lib.Dec.{leb, lit<, lit≤}
+use borrow.Author.Tests.{lt-leb}
+use lib.Bits.{bitAnd, bitOr, and-mask, or-shifted-r}
+use lib.Pow.{shl-exact, low, pow-pos}
+use lib.ListN.{length, getD, take, drop, replicate, length-append, length-map, length-drop, take-append-drop}
+use lib.Seq.{length-take-le, take-add, drop-at, getD-take}
+use Rattle.words.specs.declared.Service.{Service}
+use Rattle.words.specs.declared.Service.the-variants.{ShortMessage, Broadcast, Ussd, OldPage}
+use Rattle.words.specs.Sizes.{mostSeptets, isOldPage}
+use Rattle.words.specs.Lists.{firstPlace, laid}
+use Rattle.words.proofs.Below.{Below, below-take, below-drop, below-append}
+use Rattle.words.proofs.Places.{place-none}
+use Rattle.words.proofs.Laid.{laid-then}
+use Rattle.stream.specs.Stream.{octetsFor, packed}
+use Rattle.stream.specs.Digits.{value, digits, lowOf}
+use Rattle.stream.specs.UssdPacking.{last, addsCr, withCr, closed, ussdOctets}
+use Rattle.stream.specs.Pages.{page, pageOctets}
+use Rattle.stream.specs.SeptetCalls.{octetsOf}
+use Rattle.stream.specs.Inner.{isPage, addsUnder}
+use Rattle.stream.proofs.Numbers.{pow-mul, digits-length, value-lt, value-append, value-one, recut-append}
+use Rattle.stream.proofs.Stream.{packed-digits}
+use Rattle.stream.proofs.Ussd.{with-cr-below}
+
+-- ---- the CR
+
+pub cr-length : (cr : Bool) (t : List ℕ) → (length t ≤ length (withCr cr t)) × (length (withCr cr t) ≤ length t + 1)
+cr-length true t = let e : length (t ++ 13 ∷ []) ≡ length t + 1 = length-append t (13 ∷ []) in (omega arith, omega arith)
+cr-length false t = (omega arith, omega arith)
+
+pub cr-longer : (t : List ℕ) → length (withCr true t) ≡ length t + 1
+cr-longer t = length-append t (13 ∷ [])
+
+cr-after : (cr : Bool) (s t : List ℕ) → s ++ withCr cr t ≡ withCr cr (s ++ t)
+cr-after true s t = sym (append-assoc s t (13 ∷ []))
+cr-after false s t = refl
+
+-- the CR above septets, by a shift and an or
+pub cr-above : (l : List ℕ) → Below 128 l → length l < 8 → bitOr (value 128 l) (13 * 2 ^ (7 * length l) % 2 ^ 64) ≡ value 128 (withCr true l)
+cr-above l h few =
+    ap (bitOr (value 128 l)) (shl-exact {a = 13} 4 (7 * length l) 64 (lit< tt) (omega arith))
+    ∙ or-shifted-r 13 (7 * length l) (value 128 l) (subst (λ (k : ℕ). value 128 l < k) (sym (pow-mul 2 7 (length l))) (value-lt 128 l h))
+    ∙ ap (λ (k : ℕ). 13 * k + value 128 l) (pow-mul 2 7 (length l))
+    ∙ sym (value-append 128 l (13 ∷ []) ∙ ap (λ (k : ℕ). k * 128 ^ length l + value 128 l) (value-one 128 13))
+
+-- ---- a mask that leaves the first k septets
+
+pub first-septets : (l : List ℕ) (k : ℕ) → Below 128 l → k ≤ length l → bitAnd (value 128 l) (2 ^ (7 * k) - 1) ≡ value 128 (take k l)
+first-septets l k h few =
+    let size : length (take k l) ≡ k = length-take-le k l few in
+    let e : value 128 l ≡ value 128 (drop k l) * 2 ^ (7 * k) + value 128 (take k l) =
+    ap (value 128) (sym (take-append-drop k l)) ∙ value-append 128 (take k l) (drop k l)
+    ∙ ap (λ (i : ℕ). value 128 (drop k l) * i + value 128 (take k l)) (ap (λ (i : ℕ). 128 ^ i) size ∙ sym (pow-mul 2 7 k)) in
+    let fits : value 128 (take k l) < 2 ^ (7 * k) =
+    subst (λ (i : ℕ). value 128 (take k l) < i) (ap (λ (i : ℕ). 128 ^ i) size ∙ sym (pow-mul 2 7 k)) (value-lt 128 (take k l) (below-take 128 l h k)) in
+    and-mask (value 128 l) (7 * k) ∙ ap (λ (x : ℕ). x % 2 ^ (7 * k)) e ∙ low (value 128 (drop k l)) (7 * k) fits
+
+-- the mask of so many bits
+pub ones : (k : ℕ) → k < 64 → 1 * 2 ^ k % 2 ^ 64 - 1 ≡ 2 ^ k - 1
+ones k few =
+    let e : 1 * 2 ^ k % 2 ^ 64 ≡ 1 * 2 ^ k = shl-exact {a = 1} 1 k 64 (lit< tt) (omega arith) in
+    omega arith
+
+pub ones-above-0 : (k : ℕ) → k < 64 → 1 ≤ 1 * 2 ^ k % 2 ^ 64
+ones-above-0 k few =
+    let e : 1 * 2 ^ k % 2 ^ 64 ≡ 1 * 2 ^ k = shl-exact {a = 1} 1 k 64 (lit< tt) (omega arith) in
+    omega (arith, pow-pos k)
+
+-- ---- the front of a list
+
+pub front-over : (n : ℕ) (s : List ℕ) → n ≤ length s → length (take n s) % 8 ≡ n % 8
+front-over n s h = ap (λ (k : ℕ). k % 8) (length-take-le n s h)
+
+pub front-last : (n : ℕ) (s : List ℕ) → n ≤ length s → 0 < n → last (take n s) ≡ getD s (n - 1) 0
+unfolding last
+front-last n s h more = ap (λ (k : ℕ). getD (take n s) (k - 1) 0) (length-take-le n s h) ∙ getD-take n s (n - 1) 0 (omega arith)
+
+-- what is left of the first n after k of them
+pub front-rest : (n k : ℕ) (s : List ℕ) → k ≤ n → k ≤ length s → drop k (take n s) ≡ take (n - k) (drop k s)
+front-rest n k s h few =
+    let parts : n ≡ k + (n - k) = omega arith in
+    ap (λ (i : ℕ). drop k (take i s)) parts ∙ ap (drop k) (take-add k (n - k) s) ∙ drop-at (take k s) (take (n - k) (drop k s)) k (length-take-le k s few)
+
+-- ---- whole groups, and what is left
+
+-- the octets are those of whole groups, and at most seven more
+pub sent-count : (n : ℕ) (all : ℕ) → n ≤ all → all ≤ n + 1 → (7 * (n / 8) ≤ octetsFor all) × (octetsFor all ≤ 7 * (n / 8) + 7)
+unfolding octetsFor
+sent-count n all least most = (omega arith, omega arith)
+
+module _ (t : List ℕ) (h : Below 128 t) (cr : Bool) (n : ℕ) (all : length t ≡ n) where
+  abbrev groups : ℕ
+  groups = n / 8
+
+  abbrev octets : ℕ
+  octets = octetsFor (length (withCr cr t))
+
+  pub sent-parts : digits 256 (7 * groups) (value 128 (take (8 * groups) t)) ++ digits 256 (octets - 7 * groups) (value 128 (withCr cr (drop (8 * groups) t))) ≡ packed (withCr cr t)
+  sent-parts =
+      let front : List ℕ = take (8 * groups) t in
+      let size : 7 * length front ≡ 8 * (7 * groups) = ap (λ (k : ℕ). 7 * k) (length-take-le (8 * groups) t (omega arith)) ∙ omega arith in
+      let least : n ≤ length (withCr cr t) = omega (arith, cr-length cr t) in
+      let most : length (withCr cr t) ≤ n + 1 = omega (arith, cr-length cr t) in
+      let whole : 7 * groups + (octets - 7 * groups) ≡ octets = omega (arith, sent-count n (length (withCr cr t)) least most) in
+      sym (recut-append 7 8 (7 * groups) (octets - 7 * groups) front (withCr cr (drop (8 * groups) t)) (below-take 128 t h (8 * groups)) size)
+      ∙ ap₂ (λ (k : ℕ) (l : List ℕ). digits 256 k (value 128 l)) whole (cr-after cr front (drop (8 * groups) t) ∙ ap (withCr cr) (take-append-drop (8 * groups) t))
+      ∙ sym (packed-digits (withCr cr t) (with-cr-below cr t h))
+
+  module _ (d first : List ℕ) (e : first ≡ laid (digits 256 (7 * groups) (value 128 (take (8 * groups) t))) d) where
+    pub sent-whole : octets ≤ 7 * groups → first ≡ laid (packed (withCr cr t)) d
+    unfolding digits
+    sent-whole none =
+        let zero-left : 0 ≡ octets - 7 * groups = omega arith in
+        e
+        ∙ ap (λ (l : List ℕ). laid l d)
+        (sym (append-nil (digits 256 (7 * groups) (value 128 (take (8 * groups) t))))
+        ∙ ap (λ (k : ℕ). digits 256 (7 * groups) (value 128 (take (8 * groups) t)) ++ digits 256 k (value 128 (withCr cr (drop (8 * groups) t)))) zero-left
+        ∙ sent-parts)
+
+    pub sent-end : (w : ℕ) (second : List ℕ) → w ≡ value 128 (withCr cr (drop (8 * groups) t))
+        → second ≡ take (7 * groups) first ++ digits 256 (octets - 7 * groups) w ++ drop (7 * groups + (octets - 7 * groups)) first → second ≡ laid (packed (withCr cr t)) d
+    sent-end w second ew f =
+        let done : List ℕ = digits 256 (7 * groups) (value 128 (take (8 * groups) t)) in
+        let end : List ℕ = digits 256 (octets - 7 * groups) (value 128 (withCr cr (drop (8 * groups) t))) in
+        f
+        ∙ ap₂ (λ (l : List ℕ) (v : ℕ). take (7 * groups) l ++ digits 256 (octets - 7 * groups) v ++ drop (7 * groups + (octets - 7 * groups)) l) e ew
+        ∙ laid-then done end d (7 * groups) (octets - 7 * groups) (digits-length 256 (7 * groups) (value 128 (take (8 * groups) t))) (digits-length 256 (octets - 7 * groups) (value 128 (withCr cr (drop (8 * groups) t))))
+        ∙ ap (λ (l : List ℕ). laid l d) sent-parts
+
+-- ---- service by service
+
+pub page-most : (service : Service) → isPage service ≡ true → mostSeptets service ≡ 93
+page-most ShortMessage e = absurd (false≢true e)
+page-most Broadcast e = refl
+page-most Ussd e = absurd (false≢true e)
+page-most OldPage e = absurd (false≢true e)
+
+pub page-octets : (service : Service) (s : List ℕ) → isPage service ≡ true → packed (page s) ≡ octetsOf service s
+unfolding pageOctets
+page-octets ShortMessage s e = absurd (false≢true e)
+page-octets Broadcast s e = refl
+page-octets Ussd s e = absurd (false≢true e)
+page-octets OldPage s e = absurd (false≢true e)
+
+pub closed-octets : (service : Service) (s : List ℕ) → isPage service ≡ false → isOldPage service ≡ false → packed (withCr (addsUnder service s) s) ≡ octetsOf service s
+unfolding closed ussdOctets
+closed-octets ShortMessage s e new = refl
+closed-octets Broadcast s e new = absurd (false≢true (sym e))
+closed-octets Ussd s e new = refl
+closed-octets OldPage s e new = absurd (false≢true (sym new))
+
+-- no septet of low bits is 128 or more
+pub low-narrow : (s : List ℕ) → Below 128 s → length s ≤ firstPlace (leb 128) s
+low-narrow s h = subst (λ (k : ℕ). length s ≤ k) (sym (place-none (leb 128) s (λ k l. lt-leb 128 (getD s k 0) (h k)))) (omega arith)
+
+pub most-182 : (service : Service) → mostSeptets service ≤ 182
+most-182 ShortMessage = lit≤ tt
+most-182 Broadcast = lit≤ tt
+most-182 Ussd = lit≤ tt
+most-182 OldPage = lit≤ tt

@@ -1,0 +1,12 @@
+-- Document 01, "Packing": eight septets take seven octets, here as one number of 64 bits.
+-- Own rule: of an octet that holds a septet the low seven bits count. Cited by groups::squeeze and groups::stretch. Assumes nothing.
+--   together x == the number of 56 bits whose septets are the low seven bits of the octets of x, in their order
+--   apart v    == the number whose octets are the septets of the low 56 bits of v, in their order
+use Prim.Native.Nat.{ℕ}
+use Rattle.stream.specs.Digits.{value, digits, lowOf}
+
+unfoldable pub together : ℕ → ℕ
+together x = value 128 (lowOf 7 (digits 256 8 x))
+
+unfoldable pub apart : ℕ → ℕ
+apart v = value 256 (digits 128 8 v)
