@@ -2,10 +2,11 @@
 -- Assumes nothing.
 use mathlib.Core.Path.{_≡_, refl, ap, _∙_}
 use mathlib.Core.Bool.{Bool, true, false}
-use Prim.Native.Nat.{ℕ, _+_, _*_, _/_, _%_, _<_}
+use Prim.Native.Nat.{ℕ, _≤_, _<_}
 use native.Mathlib.Omega.{arith}
-use lib.Dec.{eqb}
+use lib.Dec.{eqb, lit≤}
 use lib.ListN.{getD}
+use Rattle.keys.specs.Keys.{keyFrom, alphabetDigit, classDigit, languageDigit, noticeDigit, compressedDigit, deletionDigit, prefixDigit, reservedDigit}
 use Rattle.coding.specs.declared.Alphabet.the-variants.{SevenBit}
 use Rattle.coding.specs.declared.Class.the-variants.{Unset}
 use Rattle.coding.specs.declared.Language.the-variants.{German}
@@ -19,27 +20,30 @@ fields a b p₀ p₁ p₂ p₃ p₄ p₅ p₆ p₇ i = record { alphabet = p₀ 
 
 -- the digits of a key
 pub record Digits (k a c l n z d p r : ℕ) : Type 0 where
-  pub alphabet : k % 4 ≡ a
-  pub class : k / 4 % 8 ≡ c
-  pub language : k / 32 % 32 ≡ l
-  pub notice : k / 1024 % 64 ≡ n
-  pub compressed : k / 65536 % 2 ≡ z
-  pub deletion : k / 131072 % 2 ≡ d
-  pub prefix : k / 262144 % 2 ≡ p
-  pub reserved : k / 524288 % 2 ≡ r
+  pub alphabet : alphabetDigit k ≡ a
+  pub class : classDigit k ≡ c
+  pub language : languageDigit k ≡ l
+  pub notice : noticeDigit k ≡ n
+  pub compressed : compressedDigit k ≡ z
+  pub deletion : deletionDigit k ≡ d
+  pub prefix : prefixDigit k ≡ p
+  pub reserved : reservedDigit k ≡ r
 
-digits : (a c l n z d p r : ℕ) → a < 4 → c < 7 → l < 17 → n < 64 → z < 2 → d < 2 → p < 2 → r < 2
-    → Digits (a + 4 * c + 32 * l + 1024 * n + 65536 * z + 131072 * d + 262144 * p + 524288 * r) a c l n z d p r
+digits : (a c l n z d p r : ℕ) → a < 8 → c < 8 → l < 32 → n < 64 → z < 2 → d < 2 → p < 2 → r < 2 → Digits (keyFrom a c l n z d p r) a c l n z d p r
 digits a c l n z d p r ha hc hl hn hz hd hp hr =
     record { alphabet = omega arith; class = omega arith; language = omega arith; notice = omega arith; compressed = omega arith; deletion = omega arith; prefix = omega arith; reserved = omega arith }
+
+-- a place in a list of at most n values is below n
+place-fits : {i m n : ℕ} → i < m → m ≤ n → i < n
+place-fits {i} {m} {n} h l = omega arith
 
 pub key-digits : (r : Reading)
     → Digits (keyOf r) (alphabetNo (r .alphabet)) (classNo (r .class)) (languageNo (r .language)) (noticeNo (r .notice)) (flagNo (r .compressed)) (flagNo (r .deletion)) (flagNo (r .prefix)) (flagNo (r .reserved))
 unfolding keyOf
 key-digits r =
-    digits _ _ _ _ _ _ _ _ (alphabet-named (r .alphabet) .below) (class-named (r .class) .below) (language-named (r .language) .below) (notice-below (r .notice)) (flag-named (r .compressed) .below) (flag-named (r .deletion) .below) (flag-named (r .prefix) .below) (flag-named (r .reserved) .below)
+    digits _ _ _ _ _ _ _ _ (place-fits (alphabet-named (r .alphabet) .below) (lit≤ tt)) (place-fits (class-named (r .class) .below) (lit≤ tt)) (place-fits (language-named (r .language) .below) (lit≤ tt)) (notice-below (r .notice)) (flag-named (r .compressed) .below) (flag-named (r .deletion) .below) (flag-named (r .prefix) .below) (flag-named (r .reserved) .below)
 
-flag-back : (b : Bool) → eqb (flagNo b) 1 ≡ b
+pub flag-back : (b : Bool) → eqb (flagNo b) 1 ≡ b
 flag-back true = refl
 flag-back false = refl
 

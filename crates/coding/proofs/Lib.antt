@@ -5,4 +5,5 @@ pub mod Octets
 pub mod Old
 pub mod Smallest
 pub mod Theorems
+pub mod Refuses
 pub mod Outcomes

@@ -1,4 +1,4 @@
--- The number of a value names it: each field's numbers are below a bound, and two values with the same number are the same.
+-- The number of a value names it: each field's numbers are places of its list of values, and two values with the same number are the same.
 -- Assumes nothing.
 use mathlib.Core.Path.{_≡_, refl, ap, _∙_, sym}
 use mathlib.Core.Bool.{Bool, true, false}
@@ -6,7 +6,7 @@ use mathlib.Core.List.{List, [], _∷_}
 use Prim.Native.Nat.{ℕ, _<_}
 use native.Mathlib.Omega.{arith}
 use lib.Dec.{lit<}
-use lib.ListN.{getD}
+use lib.ListN.{length, getD}
 use Rattle.coding.specs.declared.Alphabet.{Alphabet}
 use Rattle.coding.specs.declared.Alphabet.the-variants.{SevenBit, EightBit, Ucs2, Wap}
 use Rattle.coding.specs.declared.Class.{Class}
@@ -20,24 +20,24 @@ use Rattle.coding.specs.declared.Notice.the-variants.{Nothing, Discard, 
 use Rattle.coding.specs.Inner.{noticeAt}
 use Rattle.coding.specs.Numbers.{alphabetNo, classNo, languageNo, kindNo, noticeNo, flagNo, alphabets, classes, languages, kinds}
 
--- a stands at its number in a list of n values
-pub record Named {A : Type 0} (number : A → ℕ) (values : List A) (n : ℕ) (first a : A) : Type 0 where
+-- a stands at its number in a list of values
+pub record Named {A : Type 0} (number : A → ℕ) (values : List A) (first a : A) : Type 0 where
   pub back : getD values (number a) first ≡ a
-  pub below : number a < n
+  pub below : number a < length values
 
-injective : {A : Type 0} (number : A → ℕ) (values : List A) (n : ℕ) (first : A) → ((a : A) → Named number values n first a) → (a b : A) → number a ≡ number b → a ≡ b
-injective number values n first named a b e = sym (named a .back) ∙ ap (λ (k : ℕ). getD values k first) e ∙ named b .back
+injective : {A : Type 0} (number : A → ℕ) (values : List A) (first : A) → ((a : A) → Named number values first a) → (a b : A) → number a ≡ number b → a ≡ b
+injective number values first named a b e = sym (named a .back) ∙ ap (λ (k : ℕ). getD values k first) e ∙ named b .back
 
-pub alphabet-named : (a : Alphabet) → Named alphabetNo alphabets 4 SevenBit a
+pub alphabet-named : (a : Alphabet) → Named alphabetNo alphabets SevenBit a
 alphabet-named SevenBit = record { back = refl; below = lit< tt }
 alphabet-named EightBit = record { back = refl; below = lit< tt }
 alphabet-named Ucs2 = record { back = refl; below = lit< tt }
 alphabet-named Wap = record { back = refl; below = lit< tt }
 
 pub alphabet-injective : (a b : Alphabet) → alphabetNo a ≡ alphabetNo b → a ≡ b
-alphabet-injective = injective alphabetNo alphabets 4 SevenBit alphabet-named
+alphabet-injective = injective alphabetNo alphabets SevenBit alphabet-named
 
-pub class-named : (c : Class) → Named classNo classes 7 Unset c
+pub class-named : (c : Class) → Named classNo classes Unset c
 class-named Unset = record { back = refl; below = lit< tt }
 class-named Class0 = record { back = refl; below = lit< tt }
 class-named Class1 = record { back = refl; below = lit< tt }
@@ -47,9 +47,9 @@ class-named User1 = record { back = refl; below = lit< tt }
 class-named User2 = record { back = refl; below = lit< tt }
 
 pub class-injective : (a b : Class) → classNo a ≡ classNo b → a ≡ b
-class-injective = injective classNo classes 7 Unset class-named
+class-injective = injective classNo classes Unset class-named
 
-pub language-named : (l : Language) → Named languageNo languages 17 German l
+pub language-named : (l : Language) → Named languageNo languages German l
 language-named German = record { back = refl; below = lit< tt }
 language-named English = record { back = refl; below = lit< tt }
 language-named Italian = record { back = refl; below = lit< tt }
@@ -69,23 +69,23 @@ language-named Unspecified = record { back = refl; below = lit< tt }
 language-named Czech = record { back = refl; below = lit< tt }
 
 pub language-injective : (a b : Language) → languageNo a ≡ languageNo b → a ≡ b
-language-injective = injective languageNo languages 17 German language-named
+language-injective = injective languageNo languages German language-named
 
-pub kind-named : (k : Kind) → Named kindNo kinds 4 Voicemail k
+pub kind-named : (k : Kind) → Named kindNo kinds Voicemail k
 kind-named Voicemail = record { back = refl; below = lit< tt }
 kind-named Fax = record { back = refl; below = lit< tt }
 kind-named Mail = record { back = refl; below = lit< tt }
 kind-named Other = record { back = refl; below = lit< tt }
 
 pub kind-injective : (a b : Kind) → kindNo a ≡ kindNo b → a ≡ b
-kind-injective = injective kindNo kinds 4 Voicemail kind-named
+kind-injective = injective kindNo kinds Voicemail kind-named
 
-pub flag-named : (b : Bool) → Named flagNo (false ∷ true ∷ []) 2 false b
+pub flag-named : (b : Bool) → Named flagNo (false ∷ true ∷ []) false b
 flag-named false = record { back = refl; below = lit< tt }
 flag-named true = record { back = refl; below = lit< tt }
 
 pub flag-injective : (a b : Bool) → flagNo a ≡ flagNo b → a ≡ b
-flag-injective = injective flagNo (false ∷ true ∷ []) 2 false flag-named
+flag-injective = injective flagNo (false ∷ true ∷ []) false flag-named
 
 pub notice-below : (n : Notice) → noticeNo n < 64
 notice-below Nothing = lit< tt

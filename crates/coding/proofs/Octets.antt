@@ -2,14 +2,17 @@
 -- Assumes nothing.
 use mathlib.Core.Path.{_≡_, ap, _∙_, subst, sym}
 use mathlib.Core.Bool.{Bool}
-use Prim.Native.Nat.{ℕ, _/_, _%_, _<_}
+use Prim.Native.Nat.{ℕ, _<_}
+use lib.ListN.{length}
 use lib.Dec.{T, eqb, eqb→eq}
 use Rattle.words.specs.Bits.{bitOf, gather, bitsOf}
 use Rattle.words.proofs.Tests.{everyBelow, every-below}
 use Rattle.coding.specs.declared.Reading.{Reading}
 use Rattle.coding.specs.OctetRead.{classIn, discardIn, storeIn, generalReading, noticeReading, lastReading, readShort, readPage}
-use Rattle.coding.specs.Inner.{keyOf, readingOf, generalKey, noticeKey, lastKey, shortKey, pageKey}
-use Rattle.coding.proofs.Numbered.{class-named, language-named}
+use Rattle.keys.specs.Keys.{alphabetDigit, classDigit, languageDigit, generalKey, noticeKey, lastKey, shortKey, pageKey}
+use Rattle.coding.specs.Numbers.{alphabets, classes, languages}
+use Rattle.coding.specs.Inner.{keyOf, readingOf}
+use Rattle.coding.proofs.Numbered.{alphabet-named, class-named, language-named}
 use Rattle.coding.proofs.Keys.{key-digits, key-reading}
 
 abbrev keyed : (ℕ → ℕ) → (ℕ → Reading) → ℕ → Bool
@@ -30,10 +33,11 @@ pub page-key-is : (o : ℕ) → o < 256 → pageKey o ≡ keyOf (readPage o)
 page-key-is o h = eqb→eq _ _ (every-below (keyed pageKey readPage) 256 page-keyed o h)
 
 -- the key of a reading can be read back
-pub key-valid : (r : Reading) (k : ℕ) → k ≡ keyOf r → (k / 4 % 8 < 7) × (k / 32 % 32 < 17)
+pub key-valid : (r : Reading) (k : ℕ) → k ≡ keyOf r → (alphabetDigit k < length alphabets) × (classDigit k < length classes) × (languageDigit k < length languages)
 key-valid r k e = (
-  subst (λ (n : ℕ). n < 7) (sym (ap (λ (n : ℕ). n / 4 % 8) e ∙ key-digits r .class)) (class-named (r .class) .below),
-  subst (λ (n : ℕ). n < 17) (sym (ap (λ (n : ℕ). n / 32 % 32) e ∙ key-digits r .language)) (language-named (r .language) .below),
+  subst (λ (n : ℕ). n < length alphabets) (sym (ap alphabetDigit e ∙ key-digits r .alphabet)) (alphabet-named (r .alphabet) .below),
+  subst (λ (n : ℕ). n < length classes) (sym (ap classDigit e ∙ key-digits r .class)) (class-named (r .class) .below),
+  subst (λ (n : ℕ). n < length languages) (sym (ap languageDigit e ∙ key-digits r .language)) (language-named (r .language) .below),
 )
 
 pub key-back : (r : Reading) (k : ℕ) → k ≡ keyOf r → readingOf k ≡ r

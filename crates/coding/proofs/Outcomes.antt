@@ -12,18 +12,12 @@ use Rattle.coding.proofs.Kind.number.Kinds as kind-number-kinds
 use Rattle.coding.proofs.Kind.number.Reads as kind-number-reads
 use Rattle.coding.proofs.Notice.number.Kinds as notice-number-kinds
 use Rattle.coding.proofs.Notice.number.Reads as notice-number-reads
+use Rattle.coding.proofs.Reading.of.Kinds as of-kinds
+use Rattle.coding.proofs.Reading.of.Reads as of-reads
 use Rattle.coding.proofs.Reading.plain.Kinds as plain-kinds
 use Rattle.coding.proofs.Reading.plain.Reads as plain-reads
 use Rattle.coding.proofs.Reading.with_alphabet.Kinds as with-alphabet-kinds
 use Rattle.coding.proofs.Reading.with_alphabet.Reads as with-alphabet-reads
-use Rattle.coding.proofs.Reading.with_class.Kinds as with-class-kinds
-use Rattle.coding.proofs.Reading.with_class.Reads as with-class-reads
-use Rattle.coding.proofs.Reading.with_language.Kinds as with-language-kinds
-use Rattle.coding.proofs.Reading.with_language.Reads as with-language-reads
-use Rattle.coding.proofs.Reading.with_notice.Kinds as with-notice-kinds
-use Rattle.coding.proofs.Reading.with_notice.Reads as with-notice-reads
-use Rattle.coding.proofs.Reading.same.Kinds as same-kinds
-use Rattle.coding.proofs.Reading.same.Reads as same-reads
 use Rattle.coding.proofs.plain_octet.Kinds as plain-octet-kinds
 use Rattle.coding.proofs.plain_octet.Reads as plain-octet-reads
 use Rattle.coding.proofs.Reading.write.Kinds as write-kinds
@@ -48,23 +42,14 @@ kind-number-unique κs a x y u v p q = p ∙ sym q
 pub notice-number-unique : OneAnswer notice-number-kinds.ps notice-number-kinds.r notice-number-reads.Post
 notice-number-unique κs a x y u v p q = p ∙ sym q
 
+pub of-unique : OneAnswer of-kinds.ps of-kinds.r of-reads.Post
+of-unique κs a x y u v p q = p ∙ sym q
+
 pub plain-unique : OneAnswer plain-kinds.ps plain-kinds.r plain-reads.Post
 plain-unique κs a x y u v p q = p ∙ sym q
 
 pub with-alphabet-unique : OneAnswer with-alphabet-kinds.ps with-alphabet-kinds.r with-alphabet-reads.Post
 with-alphabet-unique κs a x y u v p q = p ∙ sym q
-
-pub with-class-unique : OneAnswer with-class-kinds.ps with-class-kinds.r with-class-reads.Post
-with-class-unique κs a x y u v p q = p ∙ sym q
-
-pub with-language-unique : OneAnswer with-language-kinds.ps with-language-kinds.r with-language-reads.Post
-with-language-unique κs a x y u v p q = p ∙ sym q
-
-pub with-notice-unique : OneAnswer with-notice-kinds.ps with-notice-kinds.r with-notice-reads.Post
-with-notice-unique κs a x y u v p q = p ∙ sym q
-
-pub same-unique : OneAnswer same-kinds.ps same-kinds.r same-reads.Post
-same-unique κs a x y u v p q = p ∙ sym q
 
 pub plain-octet-unique : OneAnswer plain-octet-kinds.ps plain-octet-kinds.r plain-octet-reads.Post
 plain-octet-unique κs a x y u v p q = p ∙ sym q

@@ -1,4 +1,4 @@
--- Readings that are alike in every field are the same reading, and so are readings with the same key.
+-- Readings that are alike in every field that an octet tells are the same reading, and so are readings with the same key.
 -- Assumes nothing.
 use mathlib.Core.Path.{_≡_, refl, ap, _∙_, sym, subst}
 use mathlib.Core.Bool.{Bool, true, false, cond}
@@ -7,7 +7,7 @@ use lib.Dec.{eqb, T, eqb→eq, eqb-refl}
 use borrow.Author.Tests.{eq-eqb}
 use Rattle.coding.specs.declared.Reading.{Reading}
 use Rattle.coding.specs.Numbers.{alphabetNo, classNo, languageNo, noticeNo, flagNo}
-use Rattle.coding.specs.OctetWritten.{sameReading}
+use Rattle.coding.specs.OctetWritten.{sameCoding}
 use Rattle.coding.specs.Inner.{keyOf, readingOf}
 use Rattle.coding.proofs.Keys.{fields, key-reading}
 use Rattle.coding.proofs.Numbered.{alphabet-injective, class-injective, language-injective, flag-injective, notice-injective}
@@ -31,7 +31,7 @@ alike true false f g = absurd (f tt)
 alike false true f g = absurd (g tt)
 alike false false f g = refl
 
-pub same-sound : (a b : Reading) → T (sameReading a b) → a ≡ b
+pub same-sound : (a b : Reading) → T (sameCoding a b) → a ≡ b
 same-sound a b h₀ =
     let h₁ = rest (eqb (alphabetNo (a .alphabet)) (alphabetNo (b .alphabet))) _ h₀ in
     let h₂ = rest (eqb (flagNo (a .compressed)) (flagNo (b .compressed))) _ h₁ in
@@ -50,17 +50,17 @@ same-sound a b h₀ =
     (flag-injective _ _ (eqb→eq _ _ (first (eqb (flagNo (a .prefix)) (flagNo (b .prefix))) _ h₆)))
     (flag-injective _ _ (eqb→eq _ _ h₇))
 
-same-itself : (a : Reading) → T (sameReading a a)
+same-itself : (a : Reading) → T (sameCoding a a)
 same-itself a = simp eqb-same tt
 
-pub same-complete : (a b : Reading) → a ≡ b → T (sameReading a b)
-same-complete a b e = subst (λ (x : Reading). T (sameReading a x)) e (same-itself a)
+pub same-complete : (a b : Reading) → a ≡ b → T (sameCoding a b)
+same-complete a b e = subst (λ (x : Reading). T (sameCoding a x)) e (same-itself a)
 
 key-sound : (a b : Reading) → keyOf a ≡ keyOf b → a ≡ b
 key-sound a b e = sym (key-reading a) ∙ ap readingOf e ∙ key-reading b
 
-pub same-key : (a b : Reading) → eqb (keyOf a) (keyOf b) ≡ sameReading a b
+pub same-key : (a b : Reading) → eqb (keyOf a) (keyOf b) ≡ sameCoding a b
 same-key a b =
-    alike (eqb (keyOf a) (keyOf b)) (sameReading a b)
+    alike (eqb (keyOf a) (keyOf b)) (sameCoding a b)
     (λ (h : T (eqb (keyOf a) (keyOf b))). same-complete a b (key-sound a b (eqb→eq _ _ h)))
-    (λ (h : T (sameReading a b)). subst (λ (x : Reading). T (eqb (keyOf a) (keyOf x))) (same-sound a b h) (eqb-refl (keyOf a)))
+    (λ (h : T (sameCoding a b)). subst (λ (x : Reading). T (eqb (keyOf a) (keyOf x))) (same-sound a b h) (eqb-refl (keyOf a)))

@@ -4,7 +4,7 @@
 --   write-least      no smaller octet reads so
 --   write-complete   a reading that is not reserved and that an octet has is written: so 8 is given for no other cause
 --   read-rewritten   an octet that is not reserved is written no larger than it was, and reads the same
---   octet-counts     reserved octets and writable readings of each service
+--   octet-counts     reserved octets and writable readings of each service are those of the list counts
 use mathlib.Core.Path.{_≡_, refl, ap, _∙_, sym, subst}
 use mathlib.Core.Bool.{Bool, true, false}
 use mathlib.Core.List.{List, [], _∷_}
@@ -18,7 +18,7 @@ use Rattle.words.specs.Judging.{when, verdict, settle}
 use Rattle.words.specs.declared.Service.{Service}
 use Rattle.words.specs.declared.Service.the-variants.{ShortMessage, Broadcast, Ussd, OldPage}
 use Rattle.words.specs.declared.Refusal.the-variants.{Unwritable}
-use Rattle.words.proofs.Places.{place-most, numbers-length}
+use Rattle.octets.proofs.First.{first-most, first-holds, first-least}
 use Rattle.coding.specs.declared.Reading.{Reading}
 use Rattle.coding.specs.declared.OctetRead.the-variants as read
 use Rattle.coding.specs.declared.OctetWritten.{OctetWritten}
@@ -26,9 +26,10 @@ use Rattle.coding.specs.declared.OctetWritten.the-variants.{Done, Refuse
 use Rattle.coding.specs.OctetRead.{classIn, discardIn, storeIn, generalReading, noticeReading, lastReading, readShort, readPage, readUnder, octetRules, octetReads}
 use Rattle.words.specs.Bits.{bitOf, gather, bitsOf}
 use Rattle.words.proofs.Tests.{both}
-use Rattle.coding.specs.OctetWritten.{sameReading, smallest, writeRules, octetWrites}
+use Rattle.coding.specs.OctetWritten.{sameCoding, smallest, writeRules, octetWrites}
+use Rattle.coding.specs.Counts.{counted, counts, right}
 use Rattle.coding.proofs.Same.{same-sound, same-complete}
-use Rattle.coding.proofs.Smallest.{found-reads, found-least, write-found}
+use Rattle.coding.proofs.Smallest.{write-found}
 
 -- a service that writes reads every octet
 pub reads-all : (s : Service) (o : ℕ) → isOldPage s ≡ false → octetReads s o ≡ read.Done (readUnder s o)
@@ -63,7 +64,7 @@ pub settled : (s : Service) (r : Reading) (o : ℕ) → octetWrites s r ≡ Done
 unfolding octetWrites writeRules smallest
 settled s r o e =
     let t = told (isOldPage s) (r .reserved) (eqb (smallest s r) 256) (smallest s r) o e in
-    let most : smallest s r ≤ 256 = subst (λ (n : ℕ). smallest s r ≤ n) (numbers-length 0 256) (place-most (λ (k : ℕ). sameReading (readUnder s k) r) (numbersFrom 0 256)) in
+    let most : smallest s r ≤ 256 = first-most (λ (k : ℕ). sameCoding (readUnder s k) r) in
     let apart : smallest s r ≡ 256 → ⊥ = λ (q : smallest s r ≡ 256). subst T (sym (eq-eqb _ _ q) ∙ t .2) tt in
     let same : smallest s r ≡ o = t .3 in
     record { new = t .0; plain = t .1; first = same; within = omega arith }
@@ -75,8 +76,8 @@ write-read s r o e =
     reads-all s o (t .new)
     ∙ ap read.Done
     (same-sound (readUnder s o) r
-    (subst (λ (k : ℕ). T (sameReading (readUnder s k) r)) (t .first)
-    (found-reads (readUnder s) r (subst (λ (k : ℕ). k < 256) (sym (t .first)) (t .within)))))
+    (subst (λ (k : ℕ). T (sameCoding (readUnder s k) r)) (t .first)
+    (first-holds (λ (k : ℕ). sameCoding (readUnder s k) r) (subst (λ (k : ℕ). k < 256) (sym (t .first)) (t .within)))))
 
 -- two readings that one octet has are the same
 same-read : (x r : Reading) → read.Done x ≡ read.Done r → x ≡ r
@@ -87,13 +88,13 @@ unfolding smallest
 write-least s r o k e l h =
     let t : Settled s r o = settled s r o e in
     let here : readUnder s k ≡ r = same-read _ _ (sym (reads-all s k (t .new)) ∙ h) in
-    subst (λ (n : ℕ). n ≤ k) (t .first) (found-least (readUnder s) r k l (same-complete _ _ here))
+    subst (λ (n : ℕ). n ≤ k) (t .first) (first-least (λ (n : ℕ). sameCoding (readUnder s n) r) k l (same-complete _ _ here))
 
 pub write-complete : (s : Service) (r : Reading) (o : ℕ) → isOldPage s ≡ false → r .reserved ≡ false → o < 256 → octetReads s o ≡ read.Done r → (k : ℕ) × (octetWrites s r ≡ Done k)
 unfolding smallest
 write-complete s r o new plain l h =
     let here : readUnder s o ≡ r = same-read _ _ (sym (reads-all s o new) ∙ h) in
-    let low : smallest s r ≤ o = found-least (readUnder s) r o l (same-complete _ _ here) in
+    let low : smallest s r ≤ o = first-least (λ (n : ℕ). sameCoding (readUnder s n) r) o l (same-complete _ _ here) in
     (smallest s r, write-found s r (smallest s r) new plain refl (omega arith))
 
 pub read-rewritten : (s : Service) (o : ℕ) (x : Reading) → isOldPage s ≡ false → o < 256 → octetReads s o ≡ read.Done x → x .reserved ≡ false
@@ -102,34 +103,7 @@ read-rewritten s o x new l h plain =
     let w = write-complete s x o new plain l h in
     (w .0, w .1, write-least s x (w .0) o (w .1) l h, write-read s x (w .0) (w .1))
 
--- how many octets pass a test
-pub counted : (ℕ → Bool) → ℕ → ℕ → ℕ
-counted f i zero = 0
-counted f i (suc n) = elim (f i) [ true ↦ suc (counted f (suc i) n) | false ↦ counted f (suc i) n ]
-
--- writing gave octet o
-abbrev pub gives : ℕ → OctetWritten → Bool
-gives o (Done k) = eqb k o
-gives o (Refused r) = false
-
-abbrev pub reservedOctets : Service → ℕ
-reservedOctets s = counted (λ (o : ℕ). readUnder s o .reserved) 0 256
-
--- a writable reading is written as one octet, so these octets are as many
-abbrev pub writableReadings : Service → ℕ
-writableReadings s = counted (λ (o : ℕ). gives o (octetWrites s (readUnder s o))) 0 256
-
--- each line: service, reserved octets, writable readings
-pub data Count : Type 0 where
-  count : Service → ℕ → ℕ → Count
-
-pub counts : List Count
-counts = count ShortMessage 128 84 ∷ count Broadcast 165 53 ∷ count Ussd 165 53 ∷ []
-
-pub right : List Count → Bool
-right [] = true
-right (count s reserved writable ∷ more) = both (both (eqb (reservedOctets s) reserved) (eqb (writableReadings s) writable)) (right more)
-
+-- the counts are right
 pub octet-counts : T (right counts)
 unfolding right counts counted octetWrites writeRules verdict smallest firstPlace numbersFrom readShort readPage generalReading noticeReading lastReading classIn discardIn storeIn bitsOf gather bitOf
 octet-counts = tt

@@ -1,10 +1,11 @@
 -- Document 01, refusals 1 to 3: whether a reading holds text that the base reads and writes.
 -- Own rule: none. Cited by Reading::holds. Assumes nothing.
---   textRules r == why a reading holds no text: 1 compressed, 2 8-bit or WAP, 3 prefix mark
---   holdsText r == the alphabet of its text, or the refusal
+--   textRules s r == why a reading holds no text under service s: 1 compressed, 2 8-bit or WAP, 3 prefix mark; alike under every service
+--   holdsText s r == the alphabet of its text, or the refusal
 use mathlib.Core.Bool.{Bool, true, false, cond}
 use mathlib.Core.List.{List, [], _∷_}
 use Rattle.words.specs.Judging.{Rule, when, verdict, settle}
+use Rattle.words.specs.declared.Service.{Service}
 use Rattle.words.specs.declared.Refusal.the-variants.{Compressed, NoText, Prefixed}
 use Rattle.coding.specs.declared.Alphabet.{Alphabet}
 use Rattle.coding.specs.declared.Alphabet.the-variants.{SevenBit, EightBit, Ucs2, Wap}
@@ -24,12 +25,12 @@ isUcs2 EightBit = false
 isUcs2 Ucs2 = true
 isUcs2 Wap = false
 
-unfoldable pub textRules : Reading → List Rule
-textRules r =
+unfoldable pub textRules : Service → Reading → List Rule
+textRules s r =
     when (r .compressed) Compressed
     ∷ when (isData (r .alphabet)) NoText
     ∷ when (r .prefix) Prefixed
     ∷ []
 
-unfoldable pub holdsText : Reading → Held
-holdsText r = settle (verdict (textRules r)) Refused (cond (isUcs2 (r .alphabet)) Units Septets)
+unfoldable pub holdsText : Service → Reading → Held
+holdsText s r = settle (verdict (textRules s r)) Refused (cond (isUcs2 (r .alphabet)) Units Septets)

@@ -3,5 +3,7 @@ pub mod OctetRead
 pub mod Numbers
 pub mod OctetWritten
 pub mod Holding
+pub mod Counts
+pub mod Refusing
 pub mod Answers
 pub mod Inner

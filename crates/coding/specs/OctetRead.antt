@@ -7,11 +7,11 @@
 --   octetReads s o  == the reading of octet o under service s, or the refusal
 use Prim.Native.Nat.{ℕ}
 use mathlib.Core.Bool.{Bool, true, cond}
-use mathlib.Core.List.{List, [], _∷_}
+use mathlib.Core.List.{List, [], _∷_, _++_}
 use lib.Dec.{ltb, eqb}
 use lib.ListN.{getD}
 use Rattle.words.specs.Bits.{bitOf, bitsOf}
-use Rattle.words.specs.Judging.{Rule, when, verdict, settle}
+use Rattle.words.specs.Judging.{Rule, when, verdict, settle, serviceRules}
 use Rattle.words.specs.declared.Service.{Service}
 use Rattle.words.specs.declared.Service.the-variants.{ShortMessage, Broadcast, Ussd, OldPage}
 use Rattle.words.specs.declared.Refusal.the-variants.{NoText}
@@ -106,11 +106,14 @@ readPage o =
     (lastReading o (userClassOf (bitsOf o 1 0)))))))))))
 
 -- only an old page refuses: its bits 3..0 must be 0
+abbrev pub alphabetRules : Service → ℕ → List Rule
+alphabetRules ShortMessage o = []
+alphabetRules Broadcast o = []
+alphabetRules Ussd o = []
+alphabetRules OldPage o = when (ltb 0 (bitsOf o 3 0)) NoText ∷ []
+
 unfoldable pub octetRules : Service → ℕ → List Rule
-octetRules ShortMessage o = []
-octetRules Broadcast o = []
-octetRules Ussd o = []
-octetRules OldPage o = when (ltb 0 (bitsOf o 3 0)) NoText ∷ []
+octetRules s o = serviceRules s ++ alphabetRules s o
 
 abbrev pub readUnder : Service → ℕ → Reading
 readUnder ShortMessage o = readShort o

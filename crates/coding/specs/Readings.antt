@@ -1,5 +1,6 @@
 -- Document 01, "Reading the data coding octet": what a reading holds where a rule does not mention it, and a reading changed in one field.
--- Own rule: none. Cited by Reading::plain and the with_ methods. Assumes nothing.
+-- Own rule: none. Cited by Reading::of, Reading::plain and Reading::with_alphabet. Assumes nothing.
+--   readingFrom a z c l d n p r == the reading of alphabet a, class c, language l, notice n and the marks compressed z, deletion d, prefix p, reserved r
 --   unmentioned       == the values of what a rule does not mention
 --   plainIn ucs2      == the same, but UCS2 where ucs2 is true
 --   reservedReading   == how a reserved coding reads: the unmentioned values with the reserved mark
@@ -16,33 +17,37 @@ use Rattle.coding.specs.declared.Notice.{Notice}
 use Rattle.coding.specs.declared.Notice.the-variants.{Nothing}
 use Rattle.coding.specs.declared.Reading.{Reading}
 
+-- the one place that makes a reading: what it holds besides is the same in all of them
+abbrev pub readingFrom : Alphabet → Bool → Class → Language → Bool → Notice → Bool → Bool → Reading
+readingFrom a z c l d n p r = record { alphabet = a; compressed = z; class = c; language = l; deletion = d; notice = n; prefix = p; reserved = r }
+
 -- 7-bit, uncompressed, no class, language unspecified, no mark, no notice
 abbrev pub unmentioned : Reading
-unmentioned = record { alphabet = SevenBit; compressed = false; class = Unset; language = Unspecified; deletion = false; notice = Nothing; prefix = false; reserved = false }
+unmentioned = readingFrom SevenBit false Unset Unspecified false Nothing false false
 
 abbrev pub reservedReading : Reading
-reservedReading = record { alphabet = SevenBit; compressed = false; class = Unset; language = Unspecified; deletion = false; notice = Nothing; prefix = false; reserved = true }
+reservedReading = readingFrom SevenBit false Unset Unspecified false Nothing false true
 
 abbrev pub withAlphabet : Alphabet → Reading → Reading
-withAlphabet a r = record { alphabet = a; compressed = r .compressed; class = r .class; language = r .language; deletion = r .deletion; notice = r .notice; prefix = r .prefix; reserved = r .reserved }
+withAlphabet a r = readingFrom a (r .compressed) (r .class) (r .language) (r .deletion) (r .notice) (r .prefix) (r .reserved)
 
 abbrev pub plainIn : Bool → Reading
 plainIn ucs2 = withAlphabet (cond ucs2 Ucs2 SevenBit) unmentioned
 
 abbrev pub withCompressed : Bool → Reading → Reading
-withCompressed b r = record { alphabet = r .alphabet; compressed = b; class = r .class; language = r .language; deletion = r .deletion; notice = r .notice; prefix = r .prefix; reserved = r .reserved }
+withCompressed z r = readingFrom (r .alphabet) z (r .class) (r .language) (r .deletion) (r .notice) (r .prefix) (r .reserved)
 
 abbrev pub withClass : Class → Reading → Reading
-withClass c r = record { alphabet = r .alphabet; compressed = r .compressed; class = c; language = r .language; deletion = r .deletion; notice = r .notice; prefix = r .prefix; reserved = r .reserved }
+withClass c r = readingFrom (r .alphabet) (r .compressed) c (r .language) (r .deletion) (r .notice) (r .prefix) (r .reserved)
 
 abbrev pub withLanguage : Language → Reading → Reading
-withLanguage l r = record { alphabet = r .alphabet; compressed = r .compressed; class = r .class; language = l; deletion = r .deletion; notice = r .notice; prefix = r .prefix; reserved = r .reserved }
+withLanguage l r = readingFrom (r .alphabet) (r .compressed) (r .class) l (r .deletion) (r .notice) (r .prefix) (r .reserved)
 
 abbrev pub withDeletion : Bool → Reading → Reading
-withDeletion b r = record { alphabet = r .alphabet; compressed = r .compressed; class = r .class; language = r .language; deletion = b; notice = r .notice; prefix = r .prefix; reserved = r .reserved }
+withDeletion d r = readingFrom (r .alphabet) (r .compressed) (r .class) (r .language) d (r .notice) (r .prefix) (r .reserved)
 
 abbrev pub withNotice : Notice → Reading → Reading
-withNotice n r = record { alphabet = r .alphabet; compressed = r .compressed; class = r .class; language = r .language; deletion = r .deletion; notice = n; prefix = r .prefix; reserved = r .reserved }
+withNotice n r = readingFrom (r .alphabet) (r .compressed) (r .class) (r .language) (r .deletion) n (r .prefix) (r .reserved)
 
 abbrev pub withPrefix : Bool → Reading → Reading
-withPrefix b r = record { alphabet = r .alphabet; compressed = r .compressed; class = r .class; language = r .language; deletion = r .deletion; notice = r .notice; prefix = b; reserved = r .reserved }
+withPrefix p r = readingFrom (r .alphabet) (r .compressed) (r .class) (r .language) (r .deletion) (r .notice) p (r .reserved)

@@ -1,14 +1,23 @@
 // The data coding octet: read under a service, and written as the smallest octet that reads so.
 ghost use mathlib.Core.Path.{_≡_};
-ghost use Prim.Native.Nat.{_<_, _/_, _%_};
-ghost use Rattle.coding.specs.Readings.{unmentioned, plainIn, withAlphabet, withClass, withLanguage, withNotice};
+ghost use Prim.Native.Nat.{_<_};
+ghost use lib.ListN.{length};
+ghost use Rattle.coding.specs.Readings.{readingFrom, unmentioned, plainIn, withAlphabet};
 ghost use Rattle.coding.specs.OctetRead.{octetReads};
-ghost use Rattle.coding.specs.Numbers.{alphabetNo, classNo, languageNo, kindNo, noticeNo, flagNo};
-ghost use Rattle.coding.specs.OctetWritten.{sameReading, octetWrites};
+ghost use Rattle.coding.specs.Numbers.{alphabetNo, classNo, languageNo, kindNo, noticeNo, flagNo, alphabets, classes, languages};
+ghost use Rattle.coding.specs.OctetWritten.{octetWrites};
 ghost use Rattle.coding.specs.declared.OctetWritten.the-variants.{Done};
 ghost use mathlib.Core.Bool.{cond};
+ghost use Rattle.keys.specs.Keys.{alphabetDigit, classDigit, languageDigit};
 ghost use Rattle.coding.specs.Holding.{holdsText};
-ghost use Rattle.coding.specs.Inner.{keyOf, noticeAt, readingOf, userClass, generalKey, noticeKey, lastKey, shortKey, pageKey, classBits, generalTry, shortTry, pageTry, checkedOctet};
+ghost use Rattle.coding.specs.Inner.{keyOf, noticeAt, readingOf, writtenAs};
+use keys::CLASS;
+use keys::COMPRESSED;
+use keys::DELETION;
+use keys::LANGUAGE;
+use keys::NOTICE;
+use keys::PREFIX;
+use keys::RESERVED;
 use words::Refusal;
 use words::Service;
 
@@ -191,20 +200,45 @@ impl Notice {
 }
 
 impl Reading {
+    // The reading with these fields.
+    pub fn of(
+        alphabet: Alphabet,
+        compressed: bool,
+        class: Class,
+        language: Language,
+        deletion: bool,
+        notice: Notice,
+        prefix: bool,
+        reserved: bool,
+    ) -> Self
+        ensures answer { λ r. ⌜ r ≡ readingFrom alphabet compressed class language deletion notice prefix reserved ⌝ }
+    {
+        Self {
+            alphabet,
+            compressed,
+            class,
+            language,
+            deletion,
+            notice,
+            prefix,
+            reserved,
+        }
+    }
+
     // The values of what a rule does not mention: 7-bit text with nothing special.
     pub fn plain() -> Self
         ensures answer { λ r. ⌜ r ≡ unmentioned ⌝ }
     {
-        Self {
-            alphabet: Alphabet::SevenBit,
-            compressed: false,
-            class: Class::Unset,
-            language: Language::Unspecified,
-            deletion: false,
-            notice: Notice::Nothing,
-            prefix: false,
-            reserved: false,
-        }
+        Self::of(
+            Alphabet::SevenBit,
+            false,
+            Class::Unset,
+            Language::Unspecified,
+            false,
+            Notice::Nothing,
+            false,
+            false,
+        )
     }
 
     // A copy in another alphabet.
@@ -214,102 +248,21 @@ impl Reading {
         let class = self.class;
         let language = self.language;
         let notice = self.notice;
-        Self {
-            alphabet: alphabet,
-            compressed: self.compressed,
-            class: class,
-            language: language,
-            deletion: self.deletion,
-            notice: notice,
-            prefix: self.prefix,
-            reserved: self.reserved,
-        }
-    }
-
-    // A copy with another class.
-    pub fn with_class(self, class: Class) -> Self
-        ensures answer { λ r. ⌜ r ≡ withClass class self ⌝ }
-    {
-        let alphabet = self.alphabet;
-        let language = self.language;
-        let notice = self.notice;
-        Self {
-            alphabet: alphabet,
-            compressed: self.compressed,
-            class: class,
-            language: language,
-            deletion: self.deletion,
-            notice: notice,
-            prefix: self.prefix,
-            reserved: self.reserved,
-        }
-    }
-
-    // A copy in another language.
-    pub fn with_language(self, language: Language) -> Self
-        ensures answer { λ r. ⌜ r ≡ withLanguage language self ⌝ }
-    {
-        let alphabet = self.alphabet;
-        let class = self.class;
-        let notice = self.notice;
-        Self {
-            alphabet: alphabet,
-            compressed: self.compressed,
-            class: class,
-            language: language,
-            deletion: self.deletion,
-            notice: notice,
-            prefix: self.prefix,
-            reserved: self.reserved,
-        }
-    }
-
-    // A copy with another waiting notice.
-    pub fn with_notice(self, notice: Notice) -> Self
-        ensures answer { λ r. ⌜ r ≡ withNotice notice self ⌝ }
-    {
-        let alphabet = self.alphabet;
-        let class = self.class;
-        let language = self.language;
-        Self {
-            alphabet: alphabet,
-            compressed: self.compressed,
-            class: class,
-            language: language,
-            deletion: self.deletion,
-            notice: notice,
-            prefix: self.prefix,
-            reserved: self.reserved,
-        }
+        Self::of(
+            alphabet,
+            self.compressed,
+            class,
+            language,
+            self.deletion,
+            notice,
+            self.prefix,
+            self.reserved,
+        )
     }
 }
 
-// A reading's key is one number for all its fields: alphabet, then 4 times class, and so on upwards.
-const CLASS: u32 = 4;
-
-const LANGUAGE: u32 = 32;
-
-const NOTICE: u32 = 1024;
-
-const COMPRESSED: u32 = 65536;
-
-const DELETION: u32 = 131072;
-
-const PREFIX: u32 = 262144;
-
-const RESERVED: u32 = 524288;
-
-// The keys of what a rule does not mention, and of a reserved coding.
-const PLAIN: u32 = 480;
-
-const UNKNOWN: u32 = 524768;
-
-const UCS2: u32 = 2;
-
-const WAP: u32 = 3;
-
 impl Reading {
-    // The sum cannot wrap, whatever the fields' numbers.
+    // One number for all its fields. The sum cannot wrap, whatever their numbers.
     fn key(self) -> u32
         ensures { λ r. ⌜ r ≡ keyOf self ⌝ }
     {
@@ -325,13 +278,6 @@ impl Reading {
             + DELETION * (flag(self.deletion) as u32)
             + PREFIX * (flag(self.prefix) as u32)
             + RESERVED * (flag(self.reserved) as u32)
-    }
-
-    // Whether two readings are alike in every field.
-    pub fn same(self, other: Reading) -> bool
-        ensures answer { λ r. ⌜ r ≡ sameReading self other ⌝ }
-    {
-        self.key() == other.key()
     }
 }
 
@@ -397,123 +343,31 @@ fn notice_at(n: u32) -> Notice
     }
 }
 
-// The reading of a key.
+// The reading of a key whose fields have values.
 fn reading_of(key: u32) -> Reading
-    requires { ⌜ (key / 4 % 8 < 7) × (key / 32 % 32 < 17) ⌝ }
+    requires { ⌜ (alphabetDigit key < length alphabets) × (classDigit key < length classes) × (languageDigit key < length languages) ⌝ }
     ensures { λ r. ⌜ r ≡ readingOf key ⌝ }
 {
-    let alphabet_no = (key % 4) as usize;
+    let alphabet_no = (key % 8) as usize;
     let alphabets = ALPHABETS;
     let alphabet = alphabets[alphabet_no];
-    let class_no = (key / 4 % 8) as usize;
+    let class_no = (key / CLASS % 8) as usize;
     let classes = CLASSES;
     let class = classes[class_no];
-    let language_no = (key / 32 % 32) as usize;
+    let language_no = (key / LANGUAGE % 32) as usize;
     let languages = LANGUAGES;
     let language = languages[language_no];
-    let notice = notice_at(key / 1024 % 64);
-    Reading {
-        alphabet: alphabet,
-        compressed: key / 65536 % 2 == 1,
-        class: class,
-        language: language,
-        deletion: key / 131072 % 2 == 1,
-        notice: notice,
-        prefix: key / 262144 % 2 == 1,
-        reserved: key / 524288 % 2 == 1,
-    }
-}
-
-// Groups 00xx and 01xx, with what they do not mention as in base.
-fn general_key(octet: u8, base: u32) -> u32
-    requires { ⌜ base < 524288 ⌝ }
-    ensures { λ r. ⌜ r ≡ generalKey octet base ⌝ }
-{
-    let alphabet = (octet / 4 % 4) as u32;
-    if alphabet == 3 {
-        return UNKNOWN;
-    }
-    let classless = base + alphabet + COMPRESSED * ((octet / 32 % 2) as u32);
-    if octet / 16 % 2 == 1 {
-        classless + CLASS * ((octet % 4 + 1) as u32)
-    } else {
-        classless
-    }
-}
-
-// Groups 1100, 1101 and 1110, with the notice of that number.
-fn notice_key(octet: u8, notice: u8, base: u32) -> u32
-    requires { ⌜ base < 524288 ⌝ }
-    ensures { λ r. ⌜ r ≡ noticeKey octet notice base ⌝ }
-{
-    if octet / 4 % 2 == 1 {
-        return UNKNOWN;
-    }
-    base + NOTICE * (notice as u32)
-}
-
-// Group 1111, with the class of that number.
-fn last_key(octet: u8, class: u8) -> u32
-    ensures { λ r. ⌜ r ≡ lastKey octet class ⌝ }
-{
-    if octet / 8 % 2 == 1 {
-        return UNKNOWN;
-    }
-    PLAIN + ((octet / 4 % 2) as u32) + CLASS * (class as u32)
-}
-
-// How an octet reads in a short message.
-fn short_key(octet: u8) -> u32
-    ensures { λ r. ⌜ r ≡ shortKey octet ⌝ }
-{
-    if octet < 0x40 {
-        general_key(octet, PLAIN)
-    } else if octet < 0x80 {
-        general_key(octet, PLAIN + DELETION)
-    } else if octet < 0xc0 {
-        UNKNOWN
-    } else if octet < 0xe0 {
-        notice_key(octet, octet - 0xb0, PLAIN)
-    } else if octet < 0xf0 {
-        notice_key(octet, octet - 0xc0, PLAIN + UCS2)
-    } else {
-        last_key(octet, octet % 4 + 1)
-    }
-}
-
-// The numbers of no class, user-defined 1 and 2, class 3.
-const USER_CLASSES: [u8; 4] = [0, 5, 6, 4];
-
-// How an octet reads in a broadcast page and in USSD.
-fn page_key(octet: u8) -> u32
-    ensures { λ r. ⌜ r ≡ pageKey octet ⌝ }
-{
-    if octet < 0x10 {
-        LANGUAGE * (octet as u32)
-    } else if octet == 0x10 {
-        PLAIN + PREFIX
-    } else if octet == 0x11 {
-        PLAIN + UCS2 + PREFIX
-    } else if octet == 0x20 {
-        LANGUAGE * 16
-    } else if octet < 0x40 {
-        UNKNOWN
-    } else if octet < 0x80 {
-        general_key(octet, PLAIN)
-    } else if octet < 0xe0 {
-        UNKNOWN
-    } else if octet < 0xf0 {
-        PLAIN + WAP
-    } else {
-        last_key(octet, user_class(octet))
-    }
-}
-
-fn user_class(octet: u8) -> u8
-    ensures { λ r. ⌜ r ≡ userClass octet ⌝ }
-{
-    let i = (octet % 4) as usize;
-    USER_CLASSES[i]
+    let notice = notice_at(key / NOTICE % 64);
+    Reading::of(
+        alphabet,
+        key / COMPRESSED % 2 == 1,
+        class,
+        language,
+        key / DELETION % 2 == 1,
+        notice,
+        key / PREFIX % 2 == 1,
+        key / RESERVED % 2 == 1,
+    )
 }
 
 // What an octet says under a service. Refuses 2 for an old page whose bits 3..0 are not 0.
@@ -521,9 +375,9 @@ pub fn read_octet(service: Service, octet: u8) -> OctetRead
     ensures answer { λ r. ⌜ r ≡ octetReads service octet ⌝ }
 {
     match service {
-        Service::ShortMessage => OctetRead::Done(reading_of(short_key(octet))),
-        Service::Broadcast => OctetRead::Done(reading_of(page_key(octet))),
-        Service::Ussd => OctetRead::Done(reading_of(page_key(octet))),
+        Service::ShortMessage => OctetRead::Done(reading_of(keys::short_key(octet))),
+        Service::Broadcast => OctetRead::Done(reading_of(keys::page_key(octet))),
+        Service::Ussd => OctetRead::Done(reading_of(keys::page_key(octet))),
         Service::OldPage => {
             if 0 < octet % 16 {
                 OctetRead::Refused(Refusal::NoText)
@@ -532,100 +386,6 @@ pub fn read_octet(service: Service, octet: u8) -> OctetRead
             }
         }
     }
-}
-
-// What a class adds to an octet of group 01xx, by its number; a user-defined class lifts it to group 1111.
-const CLASS_BITS: [u8; 8] = [0, 0x10, 0x11, 0x12, 0x13, 0xb1, 0xb2, 0];
-
-fn class_bits(key: u32) -> u8
-    ensures { λ r. ⌜ r ≡ classBits key ⌝ }
-{
-    let class = (key / 4 % 8) as usize;
-    CLASS_BITS[class]
-}
-
-// Bits 5..0 of the octet of groups 00xx and 01xx with that key.
-fn general_try(key: u32) -> u32
-    ensures { λ r. ⌜ (r ≡ generalTry key) × (r < 512) ⌝ }
-{
-    32 * (key / 65536 % 2) + 4 * (key % 4) + (class_bits(key) as u32)
-}
-
-// The one octet of a short message to try for a key.
-fn short_try(key: u32) -> u8
-    ensures { λ r. ⌜ r ≡ shortTry key ⌝ }
-{
-    let notice = key / 1024 % 64;
-    if notice == 0 {
-        ((64 * (key / 131072 % 2) + general_try(key)) % 256) as u8
-    } else {
-        ((0xb0 + notice + 8 * (key % 4)) % 256) as u8
-    }
-}
-
-// The one octet of a broadcast page or USSD to try for a key.
-fn page_try(key: u32) -> u8
-    ensures { λ r. ⌜ r ≡ pageTry key ⌝ }
-{
-    let language = key / 32 % 32;
-    if language < 15 {
-        return language as u8;
-    }
-    if 15 < language {
-        return 0x20;
-    }
-    let alphabet = key % 4;
-    if key / 262144 % 2 == 1 {
-        return (0x10 + alphabet / 2) as u8;
-    }
-    if alphabet == WAP {
-        return 0xe0;
-    }
-    let general = general_try(key);
-    if general == 0 {
-        0x0f
-    } else {
-        ((0x40 + general) % 256) as u8
-    }
-}
-
-// The octet tried, if it reads back as the key.
-fn checked(key: u32, octet: u8, back: u32) -> OctetWritten
-    ensures { λ r. ⌜ r ≡ checkedOctet key octet back ⌝ }
-{
-    if back == key {
-        OctetWritten::Done(octet)
-    } else {
-        OctetWritten::Refused(Refusal::Unwritable)
-    }
-}
-
-// The octet of a short message for a key. Plain text, 7-bit or UCS2, is by far the most, so its octets are known.
-fn short_octet(key: u32) -> OctetWritten
-    ensures { λ r. ⌜ r ≡ checkedOctet key (shortTry key) (shortKey (shortTry key)) ⌝ }
-{
-    if key == PLAIN {
-        return OctetWritten::Done(0x00);
-    }
-    if key == PLAIN + UCS2 {
-        return OctetWritten::Done(0x08);
-    }
-    let octet = short_try(key);
-    checked(key, octet, short_key(octet))
-}
-
-// The octet of a broadcast page or USSD for a key.
-fn page_octet(key: u32) -> OctetWritten
-    ensures { λ r. ⌜ r ≡ checkedOctet key (pageTry key) (pageKey (pageTry key)) ⌝ }
-{
-    if key == PLAIN {
-        return OctetWritten::Done(0x0f);
-    }
-    if key == PLAIN + UCS2 {
-        return OctetWritten::Done(0x48);
-    }
-    let octet = page_try(key);
-    checked(key, octet, page_key(octet))
 }
 
 // The octet of plain text under a service, 7-bit or UCS2: what writing Reading::plain() in that alphabet gives. Refuses 8 for an old page.
@@ -651,27 +411,36 @@ fn plain_done(ucs2: bool, septets: u8, units: u8) -> OctetWritten
     }
 }
 
+// The answer of an octet, or of 256, which is none.
+fn written(octet: u16) -> OctetWritten
+    ensures { λ r. ⌜ r ≡ writtenAs octet ⌝ }
+{
+    if octet < 256 {
+        OctetWritten::Done(octet as u8)
+    } else {
+        OctetWritten::Refused(Refusal::Unwritable)
+    }
+}
+
 impl Reading {
-    // The smallest octet that reads as self under the service: it builds the one octet that can, and reads it back.
-    // Refuses 8 for an old page, for a reserved reading, and where no octet reads so.
+    // The smallest octet that reads as self under the service. Refuses 8 for an old page, for a reserved reading, and where no octet
+    // reads so.
     pub fn write(self, service: Service) -> OctetWritten
         ensures answer { λ r. ⌜ r ≡ octetWrites service self ⌝ }
     {
-        if self.reserved {
-            return OctetWritten::Refused(Refusal::Unwritable);
-        }
         let key = self.key();
         match service {
-            Service::ShortMessage => short_octet(key),
-            Service::Broadcast => page_octet(key),
-            Service::Ussd => page_octet(key),
+            Service::ShortMessage => written(octets::short_octet(key)),
+            Service::Broadcast => written(octets::page_octet(key)),
+            Service::Ussd => written(octets::page_octet(key)),
             Service::OldPage => OctetWritten::Refused(Refusal::Unwritable),
         }
     }
 
-    // Whether it holds text, and if not, why: 1 compressed, 2 8-bit or WAP, 3 the prefix mark.
-    pub fn holds(self) -> Held
-        ensures answer { λ r. ⌜ r ≡ holdsText self ⌝ }
+    // Whether it holds text under the service, and if not, why: 1 compressed, 2 8-bit or WAP, 3 the prefix mark. Every service judges
+    // alike.
+    pub fn holds(self, service: Service) -> Held
+        ensures answer { λ r. ⌜ r ≡ holdsText service self ⌝ }
     {
         if self.compressed {
             return Held::Refused(Refusal::Compressed);

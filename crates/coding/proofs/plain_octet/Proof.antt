@@ -1,6 +1,9 @@
 -- `plain_octet` meets its contract: the definition computes what is tried for a plain reading, and that reads back. Assumes nothing.
 use Rattle.coding.proofs.Smallest.{write-old, write-short, write-broadcast, write-ussd}
-use Rattle.coding.specs.Inner.{keyOf, generalKey, generalTry, shortKey, shortTry, pageKey, pageTry}
+use Rattle.keys.specs.Keys.{generalKey, shortKey, pageKey}
+use Rattle.octets.specs.Inner.{generalTry, shortTry, pageTry}
+use Rattle.octets.proofs.Tried.{short-tried, page-tried}
+use Rattle.coding.specs.Inner.{keyOf, writtenAs}
 use Rattle.coding.specs.OctetWritten.{octetWrites}
 use Rattle.coding.specs.Readings.{plainIn}
 use Rattle.coding.specs.declared.OctetWritten.the-variants.{Done}
@@ -14,18 +17,18 @@ use Rattle.coding.proofs.plain_octet.Tie as tie
 
 short-plain : (ucs2 : Bool) → Done (cond ucs2 0x08 0x00) ≡ octetWrites ShortMessage (plainIn ucs2)
 unfolding keyOf shortTry generalTry shortKey generalKey
-short-plain true = sym (write-short (plainIn true) refl)
-short-plain false = sym (write-short (plainIn false) refl)
+short-plain true = sym (write-short (plainIn true) ∙ ap writtenAs (short-tried 962))
+short-plain false = sym (write-short (plainIn false) ∙ ap writtenAs (short-tried 960))
 
 page-plain : (ucs2 : Bool) → Done (cond ucs2 0x48 0x0f) ≡ octetWrites Broadcast (plainIn ucs2)
 unfolding keyOf pageTry generalTry pageKey generalKey
-page-plain true = sym (write-broadcast (plainIn true) refl)
-page-plain false = sym (write-broadcast (plainIn false) refl)
+page-plain true = sym (write-broadcast (plainIn true) ∙ ap writtenAs (page-tried 962))
+page-plain false = sym (write-broadcast (plainIn false) ∙ ap writtenAs (page-tried 960))
 
 ussd-plain : (ucs2 : Bool) → Done (cond ucs2 0x48 0x0f) ≡ octetWrites Ussd (plainIn ucs2)
 unfolding keyOf pageTry generalTry pageKey generalKey
-ussd-plain true = sym (write-ussd (plainIn true) refl)
-ussd-plain false = sym (write-ussd (plainIn false) refl)
+ussd-plain true = sym (write-ussd (plainIn true) ∙ ap writtenAs (page-tried 962))
+ussd-plain false = sym (write-ussd (plainIn false) ∙ ap writtenAs (page-tried 960))
 
 enum-told : tie.Need-enum-told
 enum-told c = search needs

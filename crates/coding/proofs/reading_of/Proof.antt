@@ -25,9 +25,12 @@ array-copy-out-language c = search needs
 notice-at-requires : tie.Need-notice-at-requires
 notice-at-requires c κs = search needs
 
+of-requires : tie.Need-of-requires
+of-requires c κs = search needs
+
 returns : tie.Need-returns
 unfolding readingOf
-returns c = simp (c .notice-at .ensures)
+returns c = simp (c .of .ensures, c .before .notice-at .ensures)
 
 pub reading-of-spec : {M : Type 1} → statement M
 reading-of-spec =
@@ -40,4 +43,5 @@ reading-of-spec =
     cast-language-no
     array-copy-out-language
     notice-at-requires
+    of-requires
     returns)

@@ -1,0 +1,2 @@
+pub mod Smallest
+pub mod Inner
