@@ -1,0 +1,9 @@
+pub mod Steps
+pub mod Septets
+pub mod Texts
+pub mod Accepting
+pub mod Octets
+pub mod Demands
+pub mod Refusing
+pub mod Never
+pub mod Cases

@@ -1,0 +1,283 @@
+-- How the whole reader and the whole writer come to their verdict, one call of another crate after the other.
+-- Assumes nothing.
+use mathlib.Core.Path.{_≡_, refl, ap, ap₂, _∙_, sym}
+use mathlib.Core.Bool.{Bool, true, false, cond}
+use mathlib.Core.List.{List, _∷_, _++_}
+use Prim.Native.Nat.{ℕ}
+use native.Mathlib.Omega.{arith}
+use lib.ListN.{length}
+use Rattle.words.specs.declared.Service.{Service}
+use Rattle.words.specs.declared.Service.the-variants.{ShortMessage, Broadcast, Ussd, OldPage}
+use Rattle.words.specs.declared.Refusal.{Refusal}
+use Rattle.words.specs.declared.Refusal.the-variants.{Unwritable}
+use Rattle.words.specs.declared.Filled.the-variants as filled
+use Rattle.words.specs.Sizes.{isOldPage}
+use Rattle.words.specs.Lists.{laid}
+use Rattle.words.specs.Judging.{Rule, when, Verdict, refused, accepted, verdict, settle}
+use Rattle.words.proofs.Judging.{verdict-refused-first, verdict-accepted-first, settle-told, settle-given}
+use Rattle.coding.specs.declared.Reading.{Reading}
+use Rattle.coding.specs.declared.OctetRead.{OctetRead}
+use Rattle.coding.specs.declared.OctetRead.the-variants as octet-read
+use Rattle.coding.specs.declared.OctetWritten.{OctetWritten}
+use Rattle.coding.specs.declared.OctetWritten.the-variants as octet-written
+use Rattle.coding.specs.declared.Held.{Held}
+use Rattle.coding.specs.declared.Held.the-variants as held
+use Rattle.coding.specs.OctetRead.{octetRules, readUnder, octetReads}
+use Rattle.coding.specs.OctetWritten.{smallest, octetWrites, writeRules as codingRules}
+use Rattle.coding.specs.Holding.{isUcs2, textRules, holdsText}
+use Rattle.coding.proofs.Theorems.{settled}
+use Rattle.stream.specs.UnitCalls.{ucs2OctetsOf, unitCountOf, toOctetsRules, toOctetsAnswers, toOctetsLeaves, toUnitsAnswers, toUnitsLeaves, toUnitsRules}
+use Rattle.demands.specs.declared.MessageRead.the-variants as read
+use Rattle.demands.specs.declared.MessageWritten.{MessageWritten}
+use Rattle.demands.specs.declared.MessageWritten.the-variants as written
+use Rattle.demands.specs.MessageRead.{heldText, textLengthRules, textReads, textReadLeaves, textOfMessage, lengthRules, readRules, readAnswers, readLeaves}
+use Rattle.demands.specs.MessageWritten.{textOctets, textCount, textSizeRules, textWrites, textWriteLeaves, messageOctets, messageCount, sizeRules, writeRules, writeAnswers, writeLeaves}
+use Rattle.demands.specs.Inner.{heldReads, heldReadLeaves, shownAs, ucs2Count, unitsAs}
+
+-- ---- the verdict that an answer tells
+
+abbrev pub readTold : OctetRead → Verdict
+readTold (octet-read.Done r) = accepted
+readTold (octet-read.Refused q) = refused q
+
+abbrev pub writtenTold : OctetWritten → Verdict
+writtenTold (octet-written.Done o) = accepted
+writtenTold (octet-written.Refused q) = refused q
+
+abbrev pub heldTold : Held → Verdict
+heldTold held.Septets = accepted
+heldTold held.Units = accepted
+heldTold (held.Refused q) = refused q
+
+pub octet-verdict : (s : Service) (o : ℕ) (a : OctetRead) → a ≡ octetReads s o → verdict (octetRules s o) ≡ readTold a
+unfolding octetReads
+octet-verdict s o a e = settle-told readTold octet-read.Refused (octet-read.Done (readUnder s o)) (λ q. refl) refl (verdict (octetRules s o)) a e
+
+pub coding-verdict : (s : Service) (r : Reading) (a : OctetWritten) → a ≡ octetWrites s r → verdict (codingRules s r) ≡ writtenTold a
+unfolding octetWrites
+coding-verdict s r a e = settle-told writtenTold octet-written.Refused (octet-written.Done (smallest s r)) (λ q. refl) refl (verdict (codingRules s r)) a e
+
+pub held-verdict : (s : Service) (r : Reading) (a : Held) → a ≡ holdsText s r → verdict (textRules s r) ≡ heldTold a
+unfolding holdsText
+held-verdict s r a e = settle-told heldTold held.Refused (cond (isUcs2 (r .alphabet)) held.Units held.Septets) (λ q. refl) (either (isUcs2 (r .alphabet))) (verdict (textRules s r)) a e
+  where
+    either : (b : Bool) → heldTold (cond b held.Units held.Septets) ≡ accepted
+    either true = refl
+    either false = refl
+
+pub read-given : (s : Service) (o : ℕ) (r : Reading) → octet-read.Done r ≡ octetReads s o → readUnder s o ≡ r
+unfolding octetReads
+read-given s o r e =
+    let d : octet-read.Done r ≡ octet-read.Done (readUnder s o) = e ∙ settle-given (verdict (octetRules s o)) octet-read.Refused (octet-read.Done (readUnder s o)) (octet-verdict s o (octet-read.Done r) e) in
+    sym (cc)
+
+written-given : (s : Service) (r : Reading) (o : ℕ) → octet-written.Done o ≡ octetWrites s r → smallest s r ≡ o
+unfolding octetWrites
+written-given s r o e =
+    let d : octet-written.Done o ≡ octet-written.Done (smallest s r) = e ∙ settle-given (verdict (codingRules s r)) octet-written.Refused (octet-written.Done (smallest s r)) (coding-verdict s r (octet-written.Done o) e) in
+    sym (cc)
+
+-- what is left in a buffer, and what a reader and a writer answer, at equal verdicts and equal contents
+pub leaves-agree : {v w : Verdict} {x y : List ℕ} (out : List ℕ) → v ≡ w → x ≡ y → settle w (λ q. out) (laid y out) ≡ settle v (λ q. out) (laid x out)
+leaves-agree out e t = sym (ap₂ (λ (w : Verdict) (x : List ℕ). settle w (λ q. out) (laid x out)) e t)
+
+read-agree : {v w : Verdict} {x y : List ℕ} {r q : Reading} → v ≡ w → x ≡ y → r ≡ q → settle w read.Refused (read.Done (length y) q) ≡ settle v read.Refused (read.Done (length x) r)
+read-agree {v} {w} {x} {y} {r} {q} e t s =
+    sym (ap₂ (λ (w : Verdict) (x : List ℕ). settle w read.Refused (read.Done (length x) r)) e t ∙ ap (λ (r : Reading). settle w read.Refused (read.Done (length y) r)) s)
+
+-- ---- reading a message: by its coding octet
+
+module _ (service : Service) (coding count : ℕ) (o : List ℕ) where
+  on-reading : (r : Reading) (room : ℕ) → octet-read.Done r ≡ octetReads service coding
+      → verdict (readRules service coding count o room) ≡ verdict (textRules service r ++ lengthRules service r count o room)
+  unfolding readRules
+  on-reading r room e =
+      verdict-accepted-first (octetRules service coding) (textRules service (readUnder service coding) ++ lengthRules service (readUnder service coding) count o room) (octet-verdict service coding (octet-read.Done r) e)
+      ∙ ap (λ (x : Reading). verdict (textRules service x ++ lengthRules service x count o room)) (read-given service coding r e)
+
+  pub read-done : (r : Reading) (out : List ℕ) → octet-read.Done r ≡ octetReads service coding
+      → (heldReads service r count o (length out) ≡ readAnswers service coding count o (length out)) × (heldReadLeaves service r count o out ≡ readLeaves service coding count o out)
+  unfolding heldReads heldReadLeaves readAnswers readLeaves
+  read-done r out e =
+      let v = on-reading r (length out) e in
+      let same = read-given service coding r e in
+      let t = ap (λ (x : Reading). textOfMessage service x count o) same in
+      (read-agree v t same, leaves-agree out v t)
+
+  pub read-refused : (q : Refusal) (out : List ℕ) → octet-read.Refused q ≡ octetReads service coding
+      → (read.Refused q ≡ readAnswers service coding count o (length out)) × (out ≡ readLeaves service coding count o out)
+  unfolding readAnswers readLeaves readRules
+  read-refused q out e =
+      let r = readUnder service coding in
+      let x = textOfMessage service r count o in
+      let v = verdict-refused-first (octetRules service coding) (textRules service (readUnder service coding) ++ lengthRules service (readUnder service coding) count o (length out)) q (octet-verdict service coding (octet-read.Refused q) e) in
+      (read-agree {x = x} {r = r} v refl refl, leaves-agree {x = x} out v refl)
+
+-- ---- reading a message: by what its reading holds
+
+shown-settle : (v : Verdict) (n : ℕ) (r : Reading) → shownAs r (settle v filled.Refused (filled.Done n)) ≡ settle v read.Refused (read.Done n r)
+shown-settle (refused q) n r = refl
+shown-settle accepted n r = refl
+
+units-settle : (v : Verdict) (n : ℕ) (s : Service) (coding : ℕ) → unitsAs s coding (settle v filled.Refused (filled.Done n)) ≡ settle v written.Refused (written.Done n (ucs2Count s n) coding)
+units-settle (refused q) n s coding = refl
+units-settle accepted n s coding = refl
+
+-- 7-bit text or UCS2, by the test of the alphabet
+abbrev pub heldAs : Bool → Held
+heldAs ucs2 = cond ucs2 held.Units held.Septets
+
+told-text : (ucs2 : Bool) → heldTold (heldAs ucs2) ≡ accepted
+told-text true = refl
+told-text false = refl
+
+holds-text : (s : Service) (r : Reading) (ucs2 : Bool) → heldAs ucs2 ≡ holdsText s r → isUcs2 (r .alphabet) ≡ ucs2
+unfolding holdsText
+holds-text s r ucs2 e =
+    which ucs2 (isUcs2 (r .alphabet)) (e ∙ settle-given (verdict (textRules s r)) held.Refused (heldAs (isUcs2 (r .alphabet))) (held-verdict s r (heldAs ucs2) e ∙ told-text ucs2))
+  where
+    which : (a b : Bool) → heldAs a ≡ heldAs b → b ≡ a
+    which true true e = refl
+    which true false e = let z : _≡_ {A = ℕ} 0 1 = cc in absurd (omega arith)
+    which false true e = let z : _≡_ {A = ℕ} 0 1 = cc in absurd (omega arith)
+    which false false e = refl
+
+module _ (service : Service) (r : Reading) (count : ℕ) (o out : List ℕ) where
+  pub held-text : (ucs2 : Bool) → heldAs ucs2 ≡ holdsText service r
+      → (shownAs r (textReads service ucs2 count o (length out)) ≡ heldReads service r count o (length out)) × (textReadLeaves service ucs2 count o out ≡ heldReadLeaves service r count o out)
+  unfolding heldReads heldReadLeaves textReads textReadLeaves
+  held-text ucs2 e =
+      let b = holds-text service r ucs2 e in
+      let v =
+      verdict-accepted-first (textRules service r) (lengthRules service r count o (length out)) (held-verdict service r (heldAs ucs2) e ∙ told-text ucs2)
+      ∙ ap (λ (x : Bool). verdict (textLengthRules service x count o (length out))) b
+      in
+      let t = ap (λ (x : Bool). heldText service x count o) b in
+      (shown-settle (verdict (textLengthRules service ucs2 count o (length out))) (length (heldText service ucs2 count o)) r ∙ read-agree {r = r} v t refl, leaves-agree out v t)
+
+  pub held-refused : (q : Refusal) → held.Refused q ≡ holdsText service r
+      → (read.Refused q ≡ heldReads service r count o (length out)) × (out ≡ heldReadLeaves service r count o out)
+  unfolding heldReads heldReadLeaves
+  held-refused q e =
+      let v = verdict-refused-first (textRules service r) (lengthRules service r count o (length out)) q (held-verdict service r (held.Refused q) e) in
+      let x = textOfMessage service r count o in
+      (read-agree {x = x} {r = r} v refl refl, leaves-agree {x = x} out v refl)
+
+pub units-read : (service : Service) (count : ℕ) (o out : List ℕ)
+    → (toUnitsAnswers service o count (length out) ≡ textReads service true count o (length out)) × (toUnitsLeaves service o count out ≡ textReadLeaves service true count o out)
+unfolding textReads textReadLeaves textLengthRules toUnitsAnswers toUnitsLeaves toUnitsRules
+units-read service count o out = (refl, refl)
+
+-- ---- writing a message: by its coding octet
+
+pub write-agree : {v w : Verdict} {x y : List ℕ} {m n c d : ℕ} → v ≡ w → x ≡ y → m ≡ n → c ≡ d → settle w written.Refused (written.Done (length y) n d) ≡ settle v written.Refused (written.Done (length x) m c)
+write-agree {v} {w} {x} {y} {m} {n} {c} {d} e t p q =
+    sym (ap₂ (λ (w : Verdict) (x : List ℕ). settle w written.Refused (written.Done (length x) m c)) e t
+    ∙ ap₂ (λ (m c : ℕ). settle w written.Refused (written.Done (length y) m c)) p q)
+
+-- the writer behind the coding octet: 1, 2, 3, 6, 5, 7
+unfoldable heldWrites : Service → Reading → ℕ → List ℕ → ℕ → MessageWritten
+heldWrites service r coding units room =
+    settle (verdict (textRules service r ++ sizeRules service r units room)) written.Refused
+    (written.Done (length (messageOctets service r units)) (messageCount service r units) coding)
+
+unfoldable heldWriteLeaves : Service → Reading → List ℕ → List ℕ → List ℕ
+heldWriteLeaves service r units out =
+    settle (verdict (textRules service r ++ sizeRules service r units (length out))) (λ q. out) (laid (messageOctets service r units) out)
+
+module _ (service : Service) (r : Reading) (units out : List ℕ) where
+  write-done : (coding : ℕ) → octet-written.Done coding ≡ octetWrites service r
+      → (heldWrites service r coding units (length out) ≡ writeAnswers service r units (length out)) × (heldWriteLeaves service r units out ≡ writeLeaves service r units out)
+  unfolding heldWrites heldWriteLeaves writeAnswers writeLeaves writeRules
+  write-done coding e =
+      let v = verdict-accepted-first (codingRules service r) (textRules service r ++ sizeRules service r units (length out)) (coding-verdict service r (octet-written.Done coding) e) in
+      (write-agree {x = messageOctets service r units} {m = messageCount service r units} v refl refl (written-given service r coding e), leaves-agree {x = messageOctets service r units} out v refl)
+
+  pub write-refused : (q : Refusal) → octet-written.Refused q ≡ octetWrites service r
+      → (written.Refused q ≡ writeAnswers service r units (length out)) × (out ≡ writeLeaves service r units out)
+  unfolding writeAnswers writeLeaves writeRules
+  write-refused q e =
+      let v = verdict-refused-first (codingRules service r) (textRules service r ++ sizeRules service r units (length out)) q (coding-verdict service r (octet-written.Refused q) e) in
+      (write-agree {x = messageOctets service r units} {m = messageCount service r units} {c = smallest service r} v refl refl refl, leaves-agree {x = messageOctets service r units} out v refl)
+
+-- ---- writing a message: by what its reading holds
+
+units-count : (service : Service) (units : List ℕ) → unitCountOf service units ≡ ucs2Count service (length (ucs2OctetsOf service units))
+units-count ShortMessage units = refl
+units-count Broadcast units = refl
+units-count Ussd units = refl
+units-count OldPage units = refl
+
+-- where the service writes, 8 is no rule of a text
+new-rules : (service : Service) (rules : List Rule) → isOldPage service ≡ false → verdict (when (isOldPage service) Unwritable ∷ rules) ≡ verdict rules
+unfolding verdict
+new-rules service rules new = simp new
+
+-- nor is 6 a rule of UCS2
+units-rules : (service : Service) (units : List ℕ) (room : ℕ) → verdict (when (isOldPage service) Unwritable ∷ textSizeRules service true units room) ≡ verdict (toOctetsRules service units room)
+unfolding textSizeRules toOctetsRules verdict
+units-rules service units room = refl
+
+pub old-writes : (service : Service) (ucs2 : Bool) (coding : ℕ) (units out : List ℕ) → isOldPage service ≡ true
+    → (written.Refused Unwritable ≡ textWrites service ucs2 coding units (length out)) × (out ≡ textWriteLeaves service ucs2 units out)
+unfolding textWrites textWriteLeaves verdict
+old-writes service ucs2 coding units out old = simp old (refl, refl)
+
+pub units-write : (service : Service) (coding : ℕ) (units out : List ℕ)
+    → (unitsAs service coding (toOctetsAnswers service units (length out)) ≡ textWrites service true coding units (length out)) × (toOctetsLeaves service units out ≡ textWriteLeaves service true units out)
+unfolding textWrites textWriteLeaves toOctetsAnswers toOctetsLeaves
+units-write service coding units out =
+    let v = units-rules service units (length out) in
+    (units-settle (verdict (toOctetsRules service units (length out))) (length (ucs2OctetsOf service units)) service coding ∙ write-agree {x = ucs2OctetsOf service units} {c = coding} v refl (units-count service units) refl, leaves-agree {x = ucs2OctetsOf service units} out v refl)
+
+module _ (service : Service) (r : Reading) (coding : ℕ) (units out : List ℕ) where
+  held-writes-text : (ucs2 : Bool) → heldAs ucs2 ≡ holdsText service r → isOldPage service ≡ false
+      → (textWrites service ucs2 coding units (length out) ≡ heldWrites service r coding units (length out)) × (textWriteLeaves service ucs2 units out ≡ heldWriteLeaves service r units out)
+  unfolding heldWrites heldWriteLeaves textWrites textWriteLeaves
+  held-writes-text ucs2 e new =
+      let b = holds-text service r ucs2 e in
+      let v =
+      verdict-accepted-first (textRules service r) (sizeRules service r units (length out)) (held-verdict service r (heldAs ucs2) e ∙ told-text ucs2)
+      ∙ ap (λ (x : Bool). verdict (textSizeRules service x units (length out))) b
+      ∙ sym (new-rules service (textSizeRules service ucs2 units (length out)) new)
+      in
+      let t = ap (λ (x : Bool). textOctets service x units) b in
+      let n = ap (λ (x : Bool). textCount service x units) b in
+      (write-agree {c = coding} v t n refl, leaves-agree out v t)
+
+  held-writes-refused : (q : Refusal) → held.Refused q ≡ holdsText service r
+      → (written.Refused q ≡ heldWrites service r coding units (length out)) × (out ≡ heldWriteLeaves service r units out)
+  unfolding heldWrites heldWriteLeaves
+  held-writes-refused q e =
+      let v = verdict-refused-first (textRules service r) (sizeRules service r units (length out)) q (held-verdict service r (held.Refused q) e) in
+      (write-agree {x = messageOctets service r units} {m = messageCount service r units} {c = coding} v refl refl refl, leaves-agree {x = messageOctets service r units} out v refl)
+
+-- ---- a text by itself, for a caller that knows the coding octet and what its reading holds
+
+pub text-reads : (service : Service) (coding count : ℕ) (o out : List ℕ) (r : Reading) (ucs2 : Bool) → octet-read.Done r ≡ octetReads service coding → heldAs ucs2 ≡ holdsText service r
+    → (shownAs r (textReads service ucs2 count o (length out)) ≡ readAnswers service coding count o (length out)) × (textReadLeaves service ucs2 count o out ≡ readLeaves service coding count o out)
+text-reads service coding count o out r ucs2 e h =
+    let t = held-text service r count o out ucs2 h in
+    let d = read-done service coding count o r out e in
+    (t .0 ∙ d .0, t .1 ∙ d .1)
+
+pub none-reads : (service : Service) (coding count : ℕ) (o out : List ℕ) (r : Reading) (q : Refusal) → octet-read.Done r ≡ octetReads service coding → held.Refused q ≡ holdsText service r
+    → (read.Refused q ≡ readAnswers service coding count o (length out)) × (out ≡ readLeaves service coding count o out)
+none-reads service coding count o out r q e h =
+    let t = held-refused service r count o out q h in
+    let d = read-done service coding count o r out e in
+    (t .0 ∙ d .0, t .1 ∙ d .1)
+
+pub text-writes : (service : Service) (r : Reading) (coding : ℕ) (units out : List ℕ) (ucs2 : Bool) → octet-written.Done coding ≡ octetWrites service r → heldAs ucs2 ≡ holdsText service r
+    → (textWrites service ucs2 coding units (length out) ≡ writeAnswers service r units (length out)) × (textWriteLeaves service ucs2 units out ≡ writeLeaves service r units out)
+text-writes service r coding units out ucs2 e h =
+    let t = held-writes-text service r coding units out ucs2 h (settled service r coding (sym e) .new) in
+    let d = write-done service r units out coding e in
+    (t .0 ∙ d .0, t .1 ∙ d .1)
+
+pub none-writes : (service : Service) (r : Reading) (coding : ℕ) (units out : List ℕ) (q : Refusal) → octet-written.Done coding ≡ octetWrites service r → held.Refused q ≡ holdsText service r
+    → (written.Refused q ≡ writeAnswers service r units (length out)) × (out ≡ writeLeaves service r units out)
+none-writes service r coding units out q e h =
+    let t = held-writes-refused service r coding units out q h in
+    let d = write-done service r units out coding e in
+    (t .0 ∙ d .0, t .1 ∙ d .1)

@@ -1,4 +1,0 @@
-pub mod MessageRead
-pub mod MessageWritten
-pub mod Reports
-pub mod Inner

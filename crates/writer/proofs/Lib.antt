@@ -1,0 +1,3 @@
+pub mod Settling
+pub mod Outcomes
+pub mod Refusing

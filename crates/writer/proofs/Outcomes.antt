@@ -1,0 +1,31 @@
+-- Any two outcomes that the contract of a public call of this crate allows coincide: each contract is an equation.
+-- Assumes nothing.
+use mathlib.Core.Path.{_∙_, sym}
+use denote.Ref.{now}
+use Rattle.words.proofs.Unique.{OneAnswer, OneBuffer}
+use Rattle.writer.proofs.write_message.Kinds as write-kinds
+use Rattle.writer.proofs.write_message.Reads as write
+use Rattle.writer.proofs.settle.Kinds as settle-kinds
+use Rattle.writer.proofs.settle.Reads as settle
+use Rattle.writer.proofs.settle_plain.Kinds as settle-plain-kinds
+use Rattle.writer.proofs.settle_plain.Reads as settle-plain
+use Rattle.writer.proofs.write_settled.Kinds as write-settled-kinds
+use Rattle.writer.proofs.write_settled.Reads as write-settled
+
+pub write-message-unique : OneAnswer write-kinds.ps write-kinds.r write.Post
+write-message-unique κs a x y u v p q = p .0 ∙ sym (q .0)
+
+pub write-message-buffer-unique : OneBuffer write-kinds.ps write-kinds.r (λ κs u. now (u .1 .1 .1 .0)) write.Post
+write-message-buffer-unique κs a x y u v p q = p .1 ∙ sym (q .1)
+
+pub settle-unique : OneAnswer settle-kinds.ps settle-kinds.r settle.Post
+settle-unique κs a x y u v p q = p ∙ sym q
+
+pub settle-plain-unique : OneAnswer settle-plain-kinds.ps settle-plain-kinds.r settle-plain.Post
+settle-plain-unique κs a x y u v p q = p ∙ sym q
+
+pub write-settled-unique : OneAnswer write-settled-kinds.ps write-settled-kinds.r write-settled.Post
+write-settled-unique κs a x y u v p q = p .0 ∙ sym (q .0)
+
+pub write-settled-buffer-unique : OneBuffer write-settled-kinds.ps write-settled-kinds.r (λ κs u. now (u .1 .1 .0)) write-settled.Post
+write-settled-buffer-unique κs a x y u v p q = p .1 ∙ sym (q .1)

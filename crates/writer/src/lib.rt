@@ -1,0 +1,178 @@
+// The whole writer: text into octets under a service and a reading.
+ghost use mathlib.Core.Path.{_≡_};
+ghost use mathlib.Core.Bool.{false};
+ghost use lib.ListN.{length};
+ghost use Rattle.words.specs.Sizes.{isOldPage};
+ghost use Rattle.coding.specs.Readings.{plainIn};
+ghost use Rattle.demands.specs.MessageWritten.{textWrites, textWriteLeaves, writeAnswers, writeLeaves};
+ghost use Rattle.demands.specs.Inner.{packedAs, ucs2Count, unitsAs};
+ghost use Rattle.writer.specs.Settled.{heldSettled, settledAs, settledWrites, settledLeaves};
+use coding::Held;
+use coding::OctetWritten;
+use coding::Reading;
+use demands::MessageWritten;
+use stream::Packed;
+use words::Filled;
+use words::Refusal;
+use words::Service;
+
+// How a text is coded under a service: the coding octet, and whether it is UCS2. Only settle and settle_plain make one.
+pub struct TextCoding {
+    service: Service,
+    octet: u8,
+    ucs2: bool,
+}
+
+// What settles how a text is written.
+pub enum Settled {
+    Text(TextCoding),
+    // Why none is written so.
+    Refused(Refusal),
+}
+
+// Writes a message: the octets of a text under a reading, with the length count and the coding octet.
+// Refuses a reading that cannot be written under the service (8), compressed text (1), a coding that holds no text (2), a prefix
+// mark (3), a unit that is not in the alphabet (6, the first), a text over the service's size (5), a short buffer (7).
+// Stores the octets at the front of out; a refusal stores nothing.
+pub fn write_message(
+    service: Service,
+    reading: Reading,
+    units: &[u16],
+    out: &mut [u8],
+) -> MessageWritten
+    ensures answer { λ r. ⌜ r ≡ writeAnswers service reading (now (units .entry)) (length (now (out .entry))) ⌝ }
+    ensures buffer { λ r. ⌜ now (out .exit) ≡ writeLeaves service reading (now (units .entry)) (now (out .entry)) ⌝ }
+{
+    write_settled(settle(service, reading), units, out)
+}
+
+// What a reading settles of a text before it is seen.
+// Refuses a reading that cannot be written under the service (8), compressed text (1), a coding that holds no text (2), a prefix mark (3).
+pub fn settle(service: Service, reading: Reading) -> Settled
+    ensures answer { λ r. ⌜ r ≡ settledAs service reading ⌝ }
+{
+    match reading.write(service) {
+        OctetWritten::Done(octet) => held_settled(service, octet, reading.holds(service)),
+        OctetWritten::Refused(refusal) => Settled::Refused(refusal),
+    }
+}
+
+// The same behind the coding octet.
+fn held_settled(service: Service, octet: u8, held: Held) -> Settled
+    ensures { λ r. ⌜ r ≡ heldSettled service octet held ⌝ }
+{
+    match held {
+        Held::Septets => Settled::Text(TextCoding {
+            service: service,
+            octet: octet,
+            ucs2: false,
+        }),
+        Held::Units => Settled::Text(TextCoding {
+            service: service,
+            octet: octet,
+            ucs2: true,
+        }),
+        Held::Refused(refusal) => Settled::Refused(refusal),
+    }
+}
+
+// The same of plain text, 7-bit or UCS2, whose coding octet is known. Refuses an old page (8).
+pub fn settle_plain(service: Service, ucs2: bool) -> Settled
+    ensures answer { λ r. ⌜ r ≡ settledAs service (plainIn ucs2) ⌝ }
+{
+    match coding::plain_octet(service, ucs2) {
+        OctetWritten::Done(octet) => Settled::Text(TextCoding {
+            service: service,
+            octet: octet,
+            ucs2: ucs2,
+        }),
+        OctetWritten::Refused(refusal) => Settled::Refused(refusal),
+    }
+}
+
+// Writes a text for which all else is settled, and hands on why it is not.
+// Refuses a unit that is not in the alphabet (6, the first), a text over the service's size (5), a short buffer (7).
+// Stores the octets at the front of out; a refusal stores nothing.
+pub fn write_settled(settled: Settled, units: &[u16], out: &mut [u8]) -> MessageWritten
+    ensures answer { λ r. ⌜ r ≡ settledWrites settled (now (units .entry)) (length (now (out .entry))) ⌝ }
+    ensures buffer { λ r. ⌜ now (out .exit) ≡ settledLeaves settled (now (units .entry)) (now (out .entry)) ⌝ }
+{
+    match settled {
+        Settled::Text(coding) => write_text(coding, units, out),
+        Settled::Refused(refusal) => MessageWritten::Refused(refusal),
+    }
+}
+
+// The same of what is settled.
+fn write_text(coding: TextCoding, units: &[u16], out: &mut [u8]) -> MessageWritten
+    ensures answer { λ r. ⌜ r ≡ textWrites (coding .service) (coding .ucs2) (coding .octet) (now (units .entry)) (length (now (out .entry))) ⌝ }
+    ensures buffer { λ r. ⌜ now (out .exit) ≡ textWriteLeaves (coding .service) (coding .ucs2) (now (units .entry)) (now (out .entry)) ⌝ }
+{
+    let service = coding.service;
+    if service.is_old_page() {
+        return MessageWritten::Refused(Refusal::Unwritable);
+    }
+    if coding.ucs2 {
+        return counted(
+            service,
+            coding.octet,
+            units::units_to_octets(service, units, out),
+        );
+    }
+    write_septets(service, coding.octet, units, out)
+}
+
+// The answer of writing UCS2, with its count and the coding octet.
+fn counted(service: Service, octet: u8, answer: Filled) -> MessageWritten
+    ensures { λ r. ⌜ r ≡ unitsAs service octet answer ⌝ }
+{
+    match answer {
+        Filled::Done(stored) => MessageWritten::Done {
+            octets: stored,
+            count: ucs2_count(service, stored),
+            coding: octet,
+        },
+        Filled::Refused(refusal) => MessageWritten::Refused(refusal),
+    }
+}
+
+// The length count of UCS2 text: the octets of a short message.
+fn ucs2_count(service: Service, octets: usize) -> usize
+    ensures { λ r. ⌜ r ≡ ucs2Count service octets ⌝ }
+{
+    match service {
+        Service::ShortMessage => octets,
+        Service::Broadcast => 0,
+        Service::Ussd => 0,
+        Service::OldPage => 0,
+    }
+}
+
+// 7-bit text: its septets in an array of our own, and those packed.
+fn write_septets(service: Service, coding: u8, units: &[u16], out: &mut [u8]) -> MessageWritten
+    requires { ⌜ isOldPage service ≡ false ⌝ }
+    ensures answer { λ r. ⌜ r ≡ textWrites service false coding (now (units .entry)) (length (now (out .entry))) ⌝ }
+    ensures buffer { λ r. ⌜ now (out .exit) ≡ textWriteLeaves service false (now (units .entry)) (now (out .entry)) ⌝ }
+{
+    let gathered = to_septets::gather(units);
+    let septets = gathered.septets;
+    let answer = gathered.answer;
+    match answer {
+        Filled::Done(n) => filed(coding, packing::pack_text(service, &septets, n, out)),
+        Filled::Refused(refusal) => MessageWritten::Refused(refusal),
+    }
+}
+
+// The answer of packing, with the coding octet.
+fn filed(coding: u8, packed: Packed) -> MessageWritten
+    ensures { λ r. ⌜ r ≡ packedAs coding packed ⌝ }
+{
+    match packed {
+        Packed::Done { octets, count } => MessageWritten::Done {
+            octets: octets,
+            count: count,
+            coding: coding,
+        },
+        Packed::Refused(refusal) => MessageWritten::Refused(refusal),
+    }
+}
