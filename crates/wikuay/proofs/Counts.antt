@@ -18,22 +18,22 @@ use Rattle.words.proofs.Judging.{accepted-rule, accepted-parts}
 use Rattle.coding.specs.declared.Reading.{Reading}
 use Rattle.coding.specs.Holding.{isUcs2, textRules}
 use Rattle.coding.specs.OctetWritten.{writeRules as codingRules}
-use Rattle.alphabet.specs.Writing.{septetsOf, firstUnlisted}
+use Rattle.letters.specs.Writing.{septetsOf, firstUnlisted}
 use Rattle.stream.proofs.UnitOctets.{unit-octets-length}
-use Rattle.packing.specs.declared.Packed.the-variants as packed
-use Rattle.packing.specs.Answers.{packedCount}
-use Rattle.packing.specs.SeptetCalls.{countOf, packRules, packAnswers}
-use Rattle.packing.specs.UnitCalls.{unitCountOf}
-use Rattle.message.specs.declared.MessageWritten.the-variants as written
-use Rattle.message.specs.MessageWritten.{textSizeRules, notCodable, overSize, sizeRules, writeRules, writeAnswers}
-use Rattle.message.specs.Reports.{writeCount}
-use Rattle.wikuay.specs.declared.ReadingNumbers.{ReadingNumbers}
-use Rattle.wikuay.specs.declared.names.NamedService.{NamedService}
-use Rattle.wikuay.specs.declared.names.NamedService.the-variants as service
-use Rattle.wikuay.specs.declared.names.NamedReading.{NamedReading}
-use Rattle.wikuay.specs.declared.names.NamedReading.the-variants as reading
-use Rattle.wikuay.specs.Names.{namedService, namedReading, underService, underReading}
-use Rattle.wikuay.specs.Answers.{refusedAnswer, messageWrittenAnswer}
+use Rattle.stream.specs.declared.Packed.the-variants as packed
+use Rattle.stream.specs.Answers.{packedCount}
+use Rattle.stream.specs.SeptetCalls.{countOf, packRules, packAnswers}
+use Rattle.stream.specs.UnitCalls.{unitCountOf}
+use Rattle.demands.specs.declared.MessageWritten.the-variants as written
+use Rattle.demands.specs.MessageWritten.{textSizeRules, notCodable, overSize, sizeRules, writeRules, writeAnswers}
+use Rattle.demands.specs.Reports.{writeCount}
+use Rattle.names.specs.declared.ReadingNumbers.{ReadingNumbers}
+use Rattle.names.specs.declared.NamedService.{NamedService}
+use Rattle.names.specs.declared.NamedService.the-variants as service
+use Rattle.names.specs.declared.NamedReading.{NamedReading}
+use Rattle.names.specs.declared.NamedReading.the-variants as reading
+use Rattle.names.specs.Names.{namedService, namedReading, underService, underReading}
+use Rattle.answers.specs.Answers.{refusedAnswer, messageWrittenAnswer}
 use Rattle.wikuay.specs.Calls.{writeMessageGives}
 
 septets-count : (service : Service) (s : List ℕ) → ltb (mostSeptets service) (length s) ≡ false → countOf service s ≤ 160
@@ -75,7 +75,7 @@ pub write-count : (service : Service) (r : Reading) (us : List ℕ) (room : ℕ)
 unfolding writeAnswers writeRules textSizeRules
 write-count service r us room =
     written-within (verdict (writeRules service r us room)) _ _ _ (λ e.
-    let sized = accepted-parts (textRules r) (sizeRules service r us room) (accepted-parts (codingRules service r) _ e .1) .1 in
+    let sized = accepted-parts (textRules service r) (sizeRules service r us room) (accepted-parts (codingRules service r) _ e .1) .1 in
     let two = accepted-rule (notCodable (isUcs2 (r .alphabet)) us) (Unlisted (firstUnlisted us)) _ sized .1 in
     text-count (isUcs2 (r .alphabet)) service us (accepted-rule (overSize service (isUcs2 (r .alphabet)) us) TooLong _ two .0))
 

@@ -1,4 +1,4 @@
-pub mod Named
 pub mod Counts
 pub mod Settled
+pub mod Refusing
 pub mod Outcomes

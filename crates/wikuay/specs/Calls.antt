@@ -3,20 +3,21 @@
 -- buffer is then kept as it came. Cited by the exported calls. Assumes nothing.
 use Prim.Native.Nat.{ℕ}
 use mathlib.Core.List.{List}
+use Rattle.words.specs.declared.Service.the-variants.{ShortMessage}
 use Rattle.words.specs.declared.Refusal.the-variants.{Unwritable}
 use Rattle.coding.specs.OctetRead.{octetReads}
 use Rattle.coding.specs.OctetWritten.{octetWrites}
 use Rattle.coding.specs.Holding.{holdsText}
-use Rattle.alphabet.specs.Writing.{septetsAnswers, septetsLeaves}
-use Rattle.alphabet.specs.Reading.{textOf, textAnswers, textLeaves}
-use Rattle.packing.specs.SeptetCalls.{packAnswers, packLeaves, unpackAnswers, unpackLeaves}
-use Rattle.message.specs.MessageRead.{readAnswers, readLeaves}
-use Rattle.message.specs.MessageWritten.{writeAnswers, writeLeaves}
-use Rattle.wikuay.specs.declared.ReadingNumbers.{ReadingNumbers}
-use Rattle.wikuay.specs.declared.Answer.{Answer}
-use Rattle.wikuay.specs.declared.ReadAnswer.{ReadAnswer}
-use Rattle.wikuay.specs.Names.{namedService, namedReading, underService, underReading}
-use Rattle.wikuay.specs.Answers.{refusedAnswer, readRefusedAnswer, filledAnswer, packedAnswer, octetWrittenAnswer, messageWrittenAnswer, octetReadAnswer, heldAnswer, messageReadAnswer}
+use Rattle.letters.specs.Writing.{septetsAnswers, septetsLeaves}
+use Rattle.letters.specs.Reading.{textOf, textAnswers, textLeaves}
+use Rattle.stream.specs.SeptetCalls.{packAnswers, packLeaves, unpackAnswers, unpackLeaves}
+use Rattle.demands.specs.MessageRead.{readAnswers, readLeaves}
+use Rattle.demands.specs.MessageWritten.{writeAnswers, writeLeaves}
+use Rattle.names.specs.declared.ReadingNumbers.{ReadingNumbers}
+use Rattle.answers.specs.declared.Answer.{Answer}
+use Rattle.answers.specs.declared.ReadAnswer.{ReadAnswer}
+use Rattle.names.specs.Names.{namedService, namedReading, underService, underReading}
+use Rattle.answers.specs.Answers.{refusedAnswer, readRefusedAnswer, filledAnswer, packedAnswer, octetWrittenAnswer, messageWrittenAnswer, octetReadAnswer, heldAnswer, messageReadAnswer}
 
 unfoldable pub readCodingGives : ℕ → ℕ → ReadAnswer
 readCodingGives service coding =
@@ -27,8 +28,9 @@ writeCodingGives service reading =
     underService (namedService service) (refusedAnswer Unwritable) (λ s.
     underReading (namedReading reading) (refusedAnswer Unwritable) (λ r. octetWrittenAnswer (octetWrites s r)))
 
+-- asked as of a short message: every service judges alike
 unfoldable pub holdsTextGives : ReadingNumbers → ReadAnswer
-holdsTextGives reading = underReading (namedReading reading) (readRefusedAnswer Unwritable) (λ r. heldAnswer (holdsText r))
+holdsTextGives reading = underReading (namedReading reading) (readRefusedAnswer Unwritable) (λ r. heldAnswer (holdsText ShortMessage r))
 
 unfoldable pub packGives : ℕ → List ℕ → ℕ → Answer
 packGives service septets room =

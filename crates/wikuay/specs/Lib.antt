@@ -1,4 +1,2 @@
-pub mod Names
-pub mod Answers
 pub mod Calls
-pub mod Inner
+pub mod Refusing

@@ -1,50 +1,23 @@
 // The calls that C links: the library's own under plain names, with numbers for services, readings and refusals. No rule lives here.
 // A number that names no service is refused 8 before all else, and so is a reading with a number that names nothing.
 ghost use mathlib.Core.Path.{_≡_};
+ghost use Prim.Native.Nat.{_≤_};
 ghost use lib.ListN.{length};
+ghost use Rattle.stream.specs.Answers.{packedCount};
+ghost use Rattle.demands.specs.Reports.{writeCount};
+ghost use Rattle.answers.specs.Answers.{packedAnswer, messageWrittenAnswer};
 ghost use Rattle.wikuay.specs.Calls.{readCodingGives, writeCodingGives, holdsTextGives, packGives, packKeeps, unpackGives, unpackKeeps, textToSeptetsGives, textToSeptetsKeeps, septetsToTextGives, septetsToTextKeeps, readMessageGives, readMessageKeeps, writeMessageGives, writeMessageKeeps};
+use answers::Answer;
+use answers::ReadAnswer;
+use demands::MessageWritten;
 use names::NamedReading;
 use names::NamedService;
-use said::Heard;
-use said::Sent;
+use names::ReadingNumbers;
+use names::said;
+use names::said::Heard;
+use stream::Packed;
 use words::Refusal;
-
-mod answers;
-mod names;
-mod said;
-
-// A reading in numbers, as C hands it over.
-#[repr(C)]
-pub struct ReadingNumbers {
-    pub alphabet: u8,
-    pub compressed: u8,
-    pub class: u8,
-    pub language: u8,
-    pub deletion: u8,
-    pub prefix: u8,
-    pub reserved: u8,
-    pub notice: u16,
-}
-
-// What a call answers that writes, or that fills a lent buffer.
-#[repr(C)]
-pub struct Answer {
-    pub refusal: u32,
-    pub count: u32,
-    pub position: usize,
-    pub written: usize,
-    pub coding: u8,
-}
-
-// What a call answers that reads a coding octet.
-#[repr(C)]
-pub struct ReadAnswer {
-    pub refusal: u32,
-    pub position: usize,
-    pub written: usize,
-    pub holds: u32,
-    pub reading: ReadingNumbers,
-}
+use words::Service;
 
 // What a coding octet says under a service. Refuses 8, 2.
 #[no_mangle]
@@ -77,7 +50,7 @@ pub extern "C" fn wikuay_holds_text(reading: ReadingNumbers) -> ReadAnswer
     ensures answer { λ r. ⌜ r ≡ holdsTextGives reading ⌝ }
 {
     match names::reading(reading) {
-        NamedReading::Named(reading) => answers::held(reading.holds()),
+        NamedReading::Named(reading) => answers::held(reading.holds(Service::ShortMessage)),
         NamedReading::Unnamed => answers::read_refused(Refusal::Unwritable),
     }
 }
@@ -89,7 +62,7 @@ pub extern "C" fn wikuay_pack(service: u32, septets: &[u8], out: &mut [u8]) -> A
     ensures buffer { λ r. ⌜ now (out .exit) ≡ packKeeps service (now (septets .entry)) (now (out .entry)) ⌝ }
 {
     match names::service(service) {
-        NamedService::Named(service) => answers::packed(packing::pack(service, septets, out)),
+        NamedService::Named(service) => packed(packing::pack(service, septets, out)),
         NamedService::Unnamed => answers::refused(Refusal::Unwritable),
     }
 }
@@ -114,7 +87,7 @@ pub extern "C" fn wikuay_text_to_septets(text: &[u16], out: &mut [u8]) -> Answer
     ensures answer { λ r. ⌜ r ≡ textToSeptetsGives (now (text .entry)) (length (now (out .entry))) ⌝ }
     ensures buffer { λ r. ⌜ now (out .exit) ≡ textToSeptetsKeeps (now (text .entry)) (now (out .entry)) ⌝ }
 {
-    answers::filled(alphabet::text_to_septets(text, out))
+    answers::filled(to_septets::text_to_septets(text, out))
 }
 
 // Septets to text. Refuses 9, 7, and then leaves the buffer as it came; a success touches only the written front.
@@ -123,7 +96,7 @@ pub extern "C" fn wikuay_septets_to_text(septets: &[u8], out: &mut [u16]) -> Ans
     ensures answer { λ r. ⌜ r ≡ septetsToTextGives (now (septets .entry)) (length (now (out .entry))) ⌝ }
     ensures buffer { λ r. ⌜ now (out .exit) ≡ septetsToTextKeeps (now (septets .entry)) (now (out .entry)) ⌝ }
 {
-    answers::filled(alphabet::septets_to_text(septets, out))
+    answers::filled(to_text::septets_to_text(septets, out))
 }
 
 // Reads a message. Refuses 8, 1, 2, 3, 4, 7, and then leaves the buffer as it came; a success touches only the written front.
@@ -142,7 +115,7 @@ pub extern "C" fn wikuay_read_message(
         NamedService::Named(service) => match said::hears(service, coding) {
             Heard::Text { ucs2, reading } => answers::shown(
                 reading,
-                message::read_text(service, ucs2, count, octets, out),
+                reader::read_text(service, ucs2, count, octets, out),
             ),
             Heard::Refused(refusal) => answers::read_refused(refusal),
         },
@@ -162,16 +135,37 @@ pub extern "C" fn wikuay_write_message(
     ensures buffer { λ r. ⌜ now (out .exit) ≡ writeMessageKeeps service reading (now (text .entry)) (now (out .entry)) ⌝ }
 {
     match names::service(service) {
-        NamedService::Named(service) => match said::sends(service, reading) {
-            Sent::Text { coding, ucs2 } => answers::message_written(message::write_text(
-                service,
-                ucs2,
-                coding,
-                text,
-                out,
-            )),
-            Sent::Refused(refusal) => answers::refused(refusal),
-        },
+        NamedService::Named(service) => message_written(writer::write_settled(
+            said::settled(service, reading),
+            text,
+            out,
+        )),
         NamedService::Unnamed => answers::refused(Refusal::Unwritable),
+    }
+}
+
+// The answer of packing in numbers. No count is over 160.
+fn packed(answer: Packed) -> Answer
+    requires { ⌜ packedCount answer ≤ 160 ⌝ }
+    ensures { λ r. ⌜ r ≡ packedAnswer answer ⌝ }
+{
+    match answer {
+        Packed::Done { octets, count } => answers::done(count as u32, octets, 0),
+        Packed::Refused(refusal) => answers::refused(refusal),
+    }
+}
+
+// The answer of the whole writer in numbers. No count is over 160.
+fn message_written(answer: MessageWritten) -> Answer
+    requires { ⌜ writeCount answer ≤ 160 ⌝ }
+    ensures { λ r. ⌜ r ≡ messageWrittenAnswer answer ⌝ }
+{
+    match answer {
+        MessageWritten::Done {
+            octets,
+            count,
+            coding,
+        } => answers::done(count as u32, octets, coding),
+        MessageWritten::Refused(refusal) => answers::refused(refusal),
     }
 }

@@ -1,8 +1,8 @@
 -- `wikuay_pack` meets its contract: the library's call does, for what the numbers name. Assumes nothing.
 use Rattle.wikuay.proofs.Counts.{pack-count}
 use Rattle.wikuay.specs.Calls.{packGives, packKeeps}
-use Rattle.packing.specs.declared.Packed.{Packed}
-use Rattle.packing.specs.Answers.{packedCount}
+use Rattle.stream.specs.declared.Packed.{Packed}
+use Rattle.stream.specs.Answers.{packedCount}
 use Prim.Native.Nat.{_≤_}
 use mathlib.Core.Path.{sym, _∙_, subst}
 use borrow.Author.Needs.{needs}

@@ -1,6 +1,6 @@
 -- `wikuay_read_message` meets its contract: what is settled of the text settles the message. Assumes nothing.
 use Rattle.wikuay.proofs.Settled.{gives-heard}
-use Rattle.wikuay.specs.Inner.{shownAnswer}
+use Rattle.answers.specs.Answers.{shownAnswer}
 use Rattle.wikuay.specs.Calls.{readMessageGives, readMessageKeeps}
 use denote.Ref.{now}
 use mathlib.Core.Path.{ap, sym, _∙_}

@@ -1,0 +1,3 @@
+pub mod Named
+pub mod Settled
+pub mod Outcomes

@@ -1,0 +1,93 @@
+// What the numbers of a reading, or a coding octet, settle of a text before it is written or read. Plain text, 7-bit or UCS2, is by far the
+// most, and is known by its numbers or its octet: its reading is never built.
+ghost use mathlib.Core.Path.{_≡_};
+ghost use mathlib.Core.Bool.{true};
+ghost use Rattle.coding.specs.OctetRead.{octetReads};
+ghost use Rattle.coding.specs.Holding.{holdsText};
+ghost use Rattle.coding.specs.Readings.{plainIn};
+ghost use Rattle.coding.specs.declared.OctetRead.the-variants.{Done};
+ghost use Rattle.names.specs.Said.{settledIn, heldBy, heardBy};
+use crate::NamedReading;
+use crate::ReadingNumbers;
+use coding::Held;
+use coding::OctetRead;
+use coding::OctetWritten;
+use coding::Reading;
+use words::Refusal;
+use words::Service;
+use writer::Settled;
+
+// What a text is read with.
+pub enum Heard {
+    Text { ucs2: bool, reading: ReadingNumbers },
+    Refused(Refusal),
+}
+
+// What the numbers of a reading settle of a text that is written.
+pub fn settled(service: Service, numbers: ReadingNumbers) -> Settled
+    ensures answer { λ r. ⌜ r ≡ settledIn service numbers ⌝ }
+{
+    if crate::plain(numbers, false) {
+        return writer::settle_plain(service, false);
+    }
+    if crate::plain(numbers, true) {
+        return writer::settle_plain(service, true);
+    }
+    match crate::any_reading(numbers) {
+        NamedReading::Named(reading) => writer::settle(service, reading),
+        NamedReading::Unnamed => Settled::Refused(Refusal::Unwritable),
+    }
+}
+
+// What a text is read with under a coding octet.
+pub fn hears(service: Service, coding: u8) -> Heard
+    ensures answer { λ r. ⌜ r ≡ heardBy service (octetReads service coding) ⌝ }
+{
+    if is_plain(service, false, coding) {
+        return plain_heard(service, false);
+    }
+    if is_plain(service, true, coding) {
+        return plain_heard(service, true);
+    }
+    match coding::read_octet(service, coding) {
+        OctetRead::Done(reading) => reading_heard(service, reading),
+        OctetRead::Refused(refusal) => Heard::Refused(refusal),
+    }
+}
+
+// True only for the octet that plain text is written with.
+fn is_plain(service: Service, ucs2: bool, coding: u8) -> bool
+    ensures { λ r. ⌜ (r ≡ true → octetReads service coding ≡ Done (plainIn ucs2)) ⌝ }
+{
+    match coding::plain_octet(service, ucs2) {
+        OctetWritten::Done(octet) => octet == coding,
+        OctetWritten::Refused(_) => false,
+    }
+}
+
+// What plain text is read with.
+fn plain_heard(service: Service, ucs2: bool) -> Heard
+    ensures { λ r. ⌜ r ≡ heldBy (holdsText service (plainIn ucs2)) (plainIn ucs2) ⌝ }
+{
+    Heard::Text {
+        ucs2: ucs2,
+        reading: crate::plain_numbers(ucs2),
+    }
+}
+
+// What a text is read with under any reading.
+fn reading_heard(service: Service, reading: Reading) -> Heard
+    ensures { λ r. ⌜ r ≡ heldBy (holdsText service reading) reading ⌝ }
+{
+    match reading.holds(service) {
+        Held::Septets => Heard::Text {
+            ucs2: false,
+            reading: crate::numbers(reading),
+        },
+        Held::Units => Heard::Text {
+            ucs2: true,
+            reading: crate::numbers(reading),
+        },
+        Held::Refused(refusal) => Heard::Refused(refusal),
+    }
+}
