@@ -25,9 +25,9 @@ use coding::Held;
 use coding::OctetRead;
 use coding::OctetWritten;
 use coding::Reading;
-use message::MessageRead;
-use message::MessageWritten;
-use packing::Packed;
+use demands::MessageRead;
+use demands::MessageWritten;
+use stream::Packed;
 use words::Filled;
 use words::Refusal;
 use words::Service;
@@ -205,7 +205,7 @@ fn write_coding(service: Service, reading: Reading) -> Came {
 }
 
 fn holds_text(reading: Reading) -> Came {
-    match reading.holds() {
+    match reading.holds(Service::ShortMessage) {
         Held::Septets => stored(0, 0, 0, 0),
         Held::Units => stored(0, 0, 0, 1),
         Held::Refused(refusal) => refused(refusal),
@@ -221,7 +221,7 @@ fn pack(service: Service, septets: &[u8], out: &mut [u8]) -> Came {
 
 fn read_message(given: Inputs, octets: &[u8], text: &mut [u16]) -> Came {
     let service = given.service;
-    match message::read_message(service, given.coding, given.count, octets, text) {
+    match reader::read_message(service, given.coding, given.count, octets, text) {
         MessageRead::Done { units, reading } => done(units, 0, 0, 2, reading),
         MessageRead::Refused(refusal) => refused(refusal),
     }
@@ -230,7 +230,7 @@ fn read_message(given: Inputs, octets: &[u8], text: &mut [u16]) -> Came {
 fn write_message(given: Inputs, units: &[u16], out: &mut [u8]) -> Came {
     let service = given.service;
     let reading = given.reading;
-    match message::write_message(service, reading, units, out) {
+    match writer::write_message(service, reading, units, out) {
         MessageWritten::Done {
             octets,
             count,
@@ -257,8 +257,8 @@ fn called(
         2 => holds_text(reading),
         3 => pack(service, octets, out),
         4 => came_filled(packing::unpack(service, octets, given.count, out)),
-        5 => came_filled(alphabet::text_to_septets(units, out)),
-        6 => came_filled(alphabet::septets_to_text(octets, text)),
+        5 => came_filled(to_septets::text_to_septets(units, out)),
+        6 => came_filled(to_text::septets_to_text(octets, text)),
         7 => read_message(given, octets, text),
         _ => write_message(given, units, out),
     }

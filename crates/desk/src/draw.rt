@@ -60,9 +60,9 @@ fn septet(k: usize, value: u8) {
 fn unit_of(septets: &[u8], old: bool) -> u16 {
     let mut unit = [0u16; 2];
     if old {
-        alphabet::old_page_to_text(septets, &mut unit);
+        to_text::old_page_to_text(septets, &mut unit);
     } else {
-        alphabet::septets_to_text(septets, &mut unit);
+        to_text::septets_to_text(septets, &mut unit);
     }
     unit[0]
 }

@@ -59,7 +59,7 @@ fn waiting(n: usize) {
 
 // Whether it holds text, and the octet that it is written as.
 fn uses(service: Service, reading: Reading) {
-    let held = reading.holds();
+    let held = reading.holds(service);
     let written = reading.write(service);
     say::say(b"text ");
     match held {

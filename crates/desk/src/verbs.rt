@@ -12,9 +12,9 @@ use crate::value;
 use coding::Held;
 use coding::OctetRead;
 use coding::Reading;
-use message::MessageRead;
-use message::MessageWritten;
-use packing::Packed;
+use demands::MessageRead;
+use demands::MessageWritten;
+use stream::Packed;
 use typed::Elements;
 use words::Filled;
 
@@ -29,7 +29,7 @@ fn packed(out: &[u8], octets: usize, count: usize) {
 // The call is lent the front of the buffer, as long as the room asked for.
 fn write_into(job: Job, reading: Reading, units: &[u16], out: &mut [u8]) -> MessageWritten {
     let n = line::within(job.room, out);
-    message::write_message(job::service_of(job.service), reading, units, &mut out[..n])
+    writer::write_message(job::service_of(job.service), reading, units, &mut out[..n])
 }
 
 fn write_as(job: Job, reading: Reading, units: &[u16], how: u8) {
@@ -107,7 +107,7 @@ fn unpack(job: Job, octets: &[u8]) {
 
 // The text of a message; before it the units in hexadecimal, or the drawing.
 fn answered(job: Job, reading: Reading, octets: &[u8], units: &[u16]) {
-    let held = reading.holds();
+    let held = reading.holds(job::service_of(job.service));
     if job.verb == help::READ {
         say::say(b"units ");
         say::units(units, say::SPELLED);
@@ -135,7 +135,7 @@ fn answered(job: Job, reading: Reading, octets: &[u8], units: &[u16]) {
 fn read(job: Job, octets: &[u8]) {
     let mut out = [0u16; 182];
     let service = job::service_of(job.service);
-    let answer = message::read_message(service, job.coding, job.count, octets, &mut out);
+    let answer = reader::read_message(service, job.coding, job.count, octets, &mut out);
     match answer {
         MessageRead::Done { units, reading } => {
             let k = line::within_units(units, &out);
