@@ -1,16 +1,25 @@
 #!/usr/bin/env python3
 """Holds every public call of a library crate to the form of its contract.
 
-A public call has no `requires`, an `ensures answer`, an `ensures` that names each lent `&mut` buffer at exit, and in
-proofs/Outcomes.antt of its crate a lemma that any two outcomes coincide, and one for each lent buffer.
+A public call has no `requires`. Its `ensures answer` is an equation of the result with a definition, and for each lent `&mut`
+buffer one clause is an equation of its contents at exit. The definitions stand in specs/ of a crate, and not in an Inner file.
+In proofs/Outcomes.antt of its crate, which Lib.antt names, a lemma states `OneAnswer` of that call's own contract, and one
+`OneBuffer` for each lent buffer: any two outcomes coincide. docs/OUTCOMES.md has a row for each call, and for nothing else.
 This reads text. That a contract holds is for the proofs to say, and that it says enough is for a reader.
+
+    contracts.py              judges the source
+    contracts.py --rows       prints the rows of docs/OUTCOMES.md as the source has them
+    contracts.py --self-test  shows that each fault is found
 """
 import pathlib
 import re
 import sys
 
-START = re.compile(r'^(?P<indent> *)pub (?:extern "C" )?fn (?P<name>\w+)', re.M)
+QUALIFIERS = r'(?:(?:const|unsafe|async|extern(?: "[^"]*")?) )*'
+START = re.compile(rf"^(?P<indent> *)pub {QUALIFIERS}fn (?P<name>\w+)", re.M)
 IMPL = re.compile(r"^impl (?P<type>\w+)", re.M)
+CLAUSE = re.compile(r"^\s*(?P<kind>requires|ensures)\b *(?P<name>\w*) *\{(?P<body>.*?)\}\s*(?=^\s*(?:requires|ensures)\b|\Z)", re.M | re.S)
+DEFINED = re.compile(r"^(?:(?:unfoldable|abbrev|pub) )*(?P<name>[^\s:(){}]+) :", re.M)
 
 
 def calls(text):
@@ -22,64 +31,150 @@ def calls(text):
         yield found["name"], inside[-1] if inside else None, head
 
 
-def lacks(name, kind, head, lemmas):
-    """What a call's contract lacks, in words."""
-    wants = []
-    if re.search(r"^\s*requires\b", head, re.M):
+def parameters(head):
+    """The parameters of a call, in order, each as written."""
+    inside = re.search(r"fn \w+\((.*?)\)\s*(?:->|\n|$)", head, re.S)[1]
+    return [one.strip() for one in re.split(r",(?![^\[]*\])", inside) if one.strip()]
+
+
+def lemmas_in(text):
+    """The lemmas of a proof file by name, each with the statement on one line, and the modules by the names that it gives them."""
+    stated = {m[1]: " ".join(m[2].split()) for m in re.finditer(r"^pub (\S+) :(.*?)(?=^\S+ .*=|\Z)", text, re.M | re.S)}
+    modules = {m[2]: m[1] for m in re.finditer(r"^use (\S+) as (\S+)$", text, re.M)}
+    return stated, modules
+
+
+def first_name(equation):
+    """The name that the right side of an equation begins with."""
+    head = re.match(r"[( ]*([^\s()]+)", equation)
+    return head[1] if head else ""
+
+
+def judged(crate, module, name, kind, head, outcomes, defined):
+    """What a call's contract lacks, in words; the definitions of its answer and of its lent buffers; and its lemmas."""
+    wants, cited, lemmas = [], [], []
+    front = re.split(r"^\s*(?:requires|ensures)\b", head, flags=re.M)[0]
+    clauses = [(m["kind"], m["name"], " ".join(m["body"].split())) for m in CLAUSE.finditer(head)]
+    if any(clause == "requires" for clause, _, _ in clauses):
         wants.append("has a requires")
-    if not re.search(r"^\s*ensures answer \{", head, re.M):
-        wants.append("has no `ensures answer`")
-    parameters = re.split(r"^\s*(?:requires|ensures)\b", head, flags=re.M)[0]
-    buffers = re.findall(r"(\w+): &(?:'\w+ )?mut ", parameters)
-    for buffer in buffers:
-        if not re.search(r"[(« ]" + buffer + r"»? \.exit\)", head):
-            wants.append(f"says nothing of {buffer} at exit")
+    answers = [body for clause, named, body in clauses if (clause, named) == ("ensures", "answer")]
+    equation = re.fullmatch(r"λ (\w+)\. ⌜ \1 ≡ (.*) ⌝", answers[0]) if len(answers) == 1 else None
+    if not equation or re.search(rf"(?<![\w.]){equation[1]}(?![\w])", equation[2]) or ".exit" in equation[2]:
+        wants.append("has no `ensures answer` that is an equation of the result")
+    else:
+        cited.append(first_name(equation[2]))
+    buffers = [(at, one.split(":")[0]) for at, one in enumerate(parameters(front)) if re.search(r": &(?:'\w+ )?mut ", one)]
+    for _, buffer in buffers:
+        left = [re.fullmatch(rf"λ \w+\. ⌜ now \(«?{buffer}»? \.exit\) ≡ (.*) ⌝", body) for _, _, body in clauses]
+        left = [found[1] for found in left if found and ".exit" not in found[1]]
+        if len(left) != 1:
+            wants.append(f"has no equation of {buffer} at exit")
+        else:
+            cited.append(first_name(left[0]))
+    wants += [f"cites {one}, which no specs/ outside Inner defines" for one in cited if one not in defined]
+
+    stated, modules = lemmas_in(outcomes)
     law = name.replace("_", "-")
     stems = [law] + ([f"{kind.lower()}-{law}"] if kind else [])
-    if not any(re.search(rf"^pub {stem}-unique :", lemmas, re.M) for stem in stems):
-        wants.append(f"has no lemma {law}-unique")
-    if len(re.findall(rf"^pub (?:{'|'.join(stems)})-\S*buffer\S*-unique :", lemmas, re.M)) < len(buffers):
-        wants.append("has no lemma that its buffer is one")
-    return wants
+    own = f"Rattle.{crate}.proofs.{module}{kind + '.' if kind else ''}{name}"
+
+    def stating(form):
+        """The lemma of this call that has this form, over the call's own contract, or None."""
+        for stem, statement in stated.items():
+            said = re.fullmatch(form.replace("KINDS", r"(\S+)\.ps (\S+)\.r").replace("POST", r"(\S+)\.Post"), statement)
+            if said and any(re.fullmatch(rf"{one}(-\S+)?-unique", stem) for one in stems):
+                first, second, post = said.groups()
+                if modules.get(first) == modules.get(second) == own + ".Kinds" and modules.get(post) == own + ".Reads":
+                    return stem
+        return None
+
+    known = re.search(r"^use Rattle.words(?:·proofs)?\.proofs\.Unique\.\{[^}]*OneAnswer", outcomes, re.M)
+    lemmas.append(stating("OneAnswer KINDS POST") if known else None)
+    if not lemmas[0]:
+        wants.append(f"has no lemma {law}-unique that is OneAnswer of its contract")
+    for at, buffer in buffers:
+        path = re.escape(" .1" * at + " .0")
+        lemmas.append(stating(rf"OneBuffer KINDS \(λ κs u\. now \(u{path}\)\) POST"))
+        if not lemmas[-1]:
+            wants.append(f"has no lemma that is OneBuffer of {buffer} and its contract")
+    return wants, cited, lemmas
 
 
 def self_test():
     """Each fault is found in a text that has it, and none in a text that has none."""
-    good = "pub fn fill(out: &mut [u8]) -> usize\n    ensures answer { λ r. x }\n    ensures buffer { λ r. now (out .exit) }\n{\n}\n"
-    lemmas = "pub fill-unique : x\npub fill-buffer-unique : x\n"
+    good = (
+        "pub fn fill(n: usize, out: &mut [u8]) -> usize\n    ensures answer { λ r. ⌜ r ≡ fills n (length (now (out .entry))) ⌝ }\n"
+        "    ensures buffer { λ r. ⌜ now (out .exit) ≡ fillLeaves n (now (out .entry)) ⌝ }\n{\n}\n"
+    )
+    laws = (
+        "use Rattle.words.proofs.Unique.{OneAnswer, OneBuffer}\nuse Rattle.a.proofs.fill.Kinds as kinds\nuse Rattle.a.proofs.fill.Reads as fill\n"
+        "use Rattle.a.proofs.other.Reads as other\npub fill-unique : OneAnswer kinds.ps kinds.r fill.Post\nfill-unique κs = p\n\n"
+        "pub fill-buffer-unique : OneBuffer kinds.ps kinds.r (λ κs u. now (u .1 .0)) fill.Post\nfill-buffer-unique κs = p\n"
+    )
+    answer, buffer = good.split("\n")[1:3]
     faults = [
-        (good, lemmas, 0),
-        (good.replace("    ensures answer", "    requires { x }\n    ensures answer"), lemmas, 1),
-        (good.replace("ensures answer", "ensures other"), lemmas, 1),
-        (good.replace(".exit", ".entry"), lemmas, 1),
-        (good, "pub fill-buffer-unique : x\n", 1),
-        (good, "pub fill-unique : x\n", 1),
+        ("nothing", good, laws, 0),
+        ("a requires", good.replace(answer, "    requires { ⌜ n ≡ 0 ⌝ }\n" + answer), laws, 1),
+        ("another clause in the answer's place", good.replace("ensures answer", "ensures other"), laws, 1),
+        ("an answer of ⊤", good.replace(answer, "    ensures answer { λ r. ⌜ ⊤ ⌝ }"), laws, 1),
+        ("an answer that is itself", good.replace("≡ fills n", "≡ r"), laws, 1),
+        ("an answer by no definition", good.replace("≡ fills n", "≡ unheard n"), laws, 1),
+        ("a bound in place of an equation", good.replace("r ≡ fills", "r ≤ fills"), laws, 1),
+        ("a buffer of ⊤", good.replace(buffer, "    ensures buffer { λ r. ⌜ ⊤ ⌝ }"), laws, 1),
+        ("a buffer at entry", good.replace(".exit", ".entry"), laws, 1),
+        ("a buffer that is itself", good.replace("fillLeaves n (now (out .entry))", "fillLeaves n (now (out .exit))"), laws, 1),
+        ("no lemma", good, laws.replace("pub fill-unique", "pub fill-other"), 1),
+        ("no lemma of the buffer", good, laws.replace("pub fill-buffer-unique", "pub fill-buffer-other"), 1),
+        ("a lemma of another type", good, laws.replace("OneAnswer kinds.ps kinds.r fill.Post", "⊤"), 1),
+        ("a lemma of another call", good, laws.replace("kinds.r fill.Post\nfill-unique", "kinds.r other.Post\nfill-unique"), 1),
+        ("a lemma of another parameter", good, laws.replace("(u .1 .0)", "(u .0)"), 1),
+        ("no import of what it means", good, laws.replace("words.proofs", "own.proofs"), 1),
     ]
-    for text, laws, expected in faults:
-        for name, kind, head in calls(text):
-            found = lacks(name, kind, head, laws)
-            if len(found) != expected:
-                sys.exit(f"contracts: self-test: expected {expected} faults, found {found}")
+    for front in ("const ", "unsafe ", 'extern "C" ', "const unsafe "):
+        faults.append((f"a pub {front}fn", good.replace("pub fn", f"pub {front}fn").replace(buffer + "\n", ""), laws, 1))
+    for fault, text, lemmas, expected in faults:
+        found = [judged("a", "", *call, lemmas, {"fills", "fillLeaves"})[0] for call in calls(text)]
+        if [len(wants) for wants in found] != [expected]:
+            sys.exit(f"contracts: self-test: {fault}: expected {expected} faults, found {found}")
 
 
-def main():
+def main(rows_only):
     root = pathlib.Path(__file__).resolve().parent.parent
-    count = lacking = 0
-    for crate in sorted((root / "crates").iterdir()):
-        if not (crate / "src" / "lib.rt").exists():
-            continue
-        outcomes = crate / "proofs" / "Outcomes.antt"
-        lemmas = outcomes.read_text(encoding="utf-8") if outcomes.exists() else ""
+    listed = re.findall(r"^(\w+):", (root / "crates.txt").read_text(encoding="utf-8"), re.M)
+    crates = [root / "crates" / name for name in listed if (root / "crates" / name / "src" / "lib.rt").exists()]
+    defined = {
+        found["name"]
+        for crate in crates
+        for spec in (crate / "specs").rglob("*.antt")
+        if spec.stem != "Inner"
+        for found in DEFINED.finditer(spec.read_text(encoding="utf-8"))
+    }
+    rows, faults = [], []
+    for crate in crates:
+        outcomes, lib = crate / "proofs" / "Outcomes.antt", crate / "proofs" / "Lib.antt"
+        named = lib.exists() and re.search(r"^(?:pub )?mod Outcomes$", lib.read_text(encoding="utf-8"), re.M)
+        lemmas = outcomes.read_text(encoding="utf-8") if outcomes.exists() and named else ""
         for source in sorted((crate / "src").rglob("*.rt")):
+            inside = source.relative_to(crate / "src").with_suffix("").parts
+            module = "" if inside == ("lib",) else ".".join(inside) + "."
             for name, kind, head in calls(source.read_text(encoding="utf-8")):
-                count += 1
-                wants = lacks(name, kind, head, lemmas)
+                wants, cited, laws = judged(crate.name, module, name, kind, head, lemmas, defined)
+                call = f"{kind}::{name}" if kind else name
+                quoted = [", ".join(f"`{one}`" for one in some) for some in (cited[:1], cited[1:], [law for law in laws if law])]
+                rows.append(f"| {crate.name} | `{call}` | {quoted[0]} | {quoted[1]} | {quoted[2]} |".replace("|  |", "| |"))
                 if wants:
-                    lacking += 1
-                    print(f"{source.relative_to(root)}: {name}: {'; '.join(wants)}")
-    print(f"contracts: {count} public calls, {lacking} lacking something")
-    sys.exit(1 if lacking or not count else 0)
+                    faults.append(f"{source.relative_to(root)}: {name}: {'; '.join(wants)}")
+    if rows_only:
+        print("\n".join(rows))
+        return
+    told = re.findall(rf"^\| (?:{'|'.join(listed)}) \| .*$", (root / "docs" / "OUTCOMES.md").read_text(encoding="utf-8"), re.M)
+    faults += [f"docs/OUTCOMES.md lacks: {row}" for row in rows if row not in told]
+    faults += [f"docs/OUTCOMES.md has a row that the source has not: {row}" for row in told if row not in rows]
+    for fault in faults:
+        print(fault)
+    print(f"contracts: {len(rows)} public calls, {len(faults)} faults")
+    sys.exit(1 if faults or not rows else 0)
 
 
 if __name__ == "__main__":
-    self_test() if sys.argv[1:] == ["--self-test"] else main()
+    self_test() if sys.argv[1:] == ["--self-test"] else main(sys.argv[1:] == ["--rows"])
