@@ -1,24 +1,23 @@
 /*
- * wikuay.h: the text that mobile networks carry, by 3GPP TS 23.038. C99 and C++, for x86-64 Linux.
+ * wikuay.h: the text that mobile networks carry, by 3GPP TS 23.038. C99 and C++11, for x86-64 Linux.
  *
- * Link libwikuay.a. Nothing is allocated, kept or printed; every call returns, answers on every input and may run in
- * any thread.
+ * Link libwikuay.a or libwikuay.so. Nothing is allocated, kept or printed; every call returns and may run in any
+ * thread.
  *
- * The caller owes this, and nothing else:
+ * A call asks nothing of the values that it is given: it answers on every number, octet and unit. Of pointers and
+ * lengths it asks what C asks, and nothing else:
  * - A pointer is not NULL, also where its length is 0, is aligned, and is valid for that many elements.
  * - The lent buffer `out` overlaps no input.
  * - No length is over PTRDIFF_MAX octets.
  *
  * Lengths and positions count elements: octets, septets or units. A septet is an octet of 0 to 127. A unit is a
- * native uint16_t of UCS2. A flag is a uint8_t of 0 or 1.
+ * native uint16_t of UCS2, and each stands alone: a lone surrogate is a unit like any other, written and read as it is.
+ * A flag is a uint8_t of 0 or 1. The count is TP-UDL, and a coding octet is the data coding scheme (DCS).
  *
  * An answer with refusal 0 is a success: the result is the first `written` elements of `out`, and the rest of `out` is
  * as it came. Any other answer is a refusal: `out` is as it came, written, count, coding and holds are 0, and the
- * reading is WIKUAY_PLAIN. Each call names its refusals in the order in which they are judged.
- *
- * Beside each call stand the clause of TS 23.038 and the theorems. They are proved of the code behind the call
- * (crates/wikuay/proofs/Outcomes.antt: any two outcomes that the contract allows coincide). The contract itself stands
- * above the call in crates/wikuay/src/lib.rt, and its definitions in crates/wikuay/specs/Calls.antt.
+ * reading is WIKUAY_PLAIN. Each call names its refusals in the order in which they are judged, and its clauses of
+ * TS 23.038. Every call is proved to answer so: docs/OUTCOMES.md of the source names the theorems.
  */
 #ifndef WIKUAY_H
 #define WIKUAY_H
@@ -30,13 +29,20 @@
 extern "C" {
 #endif
 
+/* The version of this header. WIKUAY_VERSION_NUMBER compares: 102 is 0.1.2. */
+#define WIKUAY_VERSION "0.1.0"
+#define WIKUAY_VERSION_MAJOR 0
+#define WIKUAY_VERSION_MINOR 1
+#define WIKUAY_VERSION_PATCH 0
+#define WIKUAY_VERSION_NUMBER (WIKUAY_VERSION_MAJOR * 10000 + WIKUAY_VERSION_MINOR * 100 + WIKUAY_VERSION_PATCH)
+
 /* Services. Any other number is refused 8 before all else, in every call that takes a service. */
 #define WIKUAY_SHORT_MESSAGE 0
 #define WIKUAY_BROADCAST 1
 #define WIKUAY_USSD 2
 #define WIKUAY_OLD_PAGE 3 /* the broadcast page of 1991, which is read only */
 
-/* Refusals. */
+/* Refusals. The numbers are permanent. */
 #define WIKUAY_REFUSED_COMPRESSED 1   /* compressed text */
 #define WIKUAY_REFUSED_NO_TEXT 2      /* the coding holds no text: 8-bit, WAP, an old page's alphabet not 0 */
 #define WIKUAY_REFUSED_PREFIXED 3     /* the coding has the prefix mark */
@@ -46,6 +52,55 @@ extern "C" {
 #define WIKUAY_REFUSED_NO_ROOM 7      /* the lent buffer is shorter than the result */
 #define WIKUAY_REFUSED_UNWRITABLE 8   /* the reading cannot be written under the service; a number names nothing */
 #define WIKUAY_REFUSED_NO_SEPTET 9    /* a given septet is 128 or more; position: the first such septet */
+/* Not given yet by any call. */
+#define WIKUAY_REFUSED_WRONG_PAGES 10   /* pages or parts that are not those of one message */
+#define WIKUAY_REFUSED_WRONG_LETTERS 11 /* language letters */
+#define WIKUAY_REFUSED_WRONG_HEADER 12  /* user data header */
+#define WIKUAY_REFUSED_NO_TABLE 13      /* no table for the language */
+#define WIKUAY_REFUSED_ILL_FORMED 14    /* ill-formed sequence or lone surrogate */
+
+/* The constant's own name, and what the command prints. 0 is no refusal; another number is unknown. */
+static inline const char *wikuay_refusal_name(uint32_t refusal) {
+  switch (refusal) {
+    case 0: return "none";
+    case WIKUAY_REFUSED_COMPRESSED: return "WIKUAY_REFUSED_COMPRESSED";
+    case WIKUAY_REFUSED_NO_TEXT: return "WIKUAY_REFUSED_NO_TEXT";
+    case WIKUAY_REFUSED_PREFIXED: return "WIKUAY_REFUSED_PREFIXED";
+    case WIKUAY_REFUSED_WRONG_LENGTH: return "WIKUAY_REFUSED_WRONG_LENGTH";
+    case WIKUAY_REFUSED_TOO_LONG: return "WIKUAY_REFUSED_TOO_LONG";
+    case WIKUAY_REFUSED_UNLISTED: return "WIKUAY_REFUSED_UNLISTED";
+    case WIKUAY_REFUSED_NO_ROOM: return "WIKUAY_REFUSED_NO_ROOM";
+    case WIKUAY_REFUSED_UNWRITABLE: return "WIKUAY_REFUSED_UNWRITABLE";
+    case WIKUAY_REFUSED_NO_SEPTET: return "WIKUAY_REFUSED_NO_SEPTET";
+    case WIKUAY_REFUSED_WRONG_PAGES: return "WIKUAY_REFUSED_WRONG_PAGES";
+    case WIKUAY_REFUSED_WRONG_LETTERS: return "WIKUAY_REFUSED_WRONG_LETTERS";
+    case WIKUAY_REFUSED_WRONG_HEADER: return "WIKUAY_REFUSED_WRONG_HEADER";
+    case WIKUAY_REFUSED_NO_TABLE: return "WIKUAY_REFUSED_NO_TABLE";
+    case WIKUAY_REFUSED_ILL_FORMED: return "WIKUAY_REFUSED_ILL_FORMED";
+    default: return "unknown";
+  }
+}
+
+static inline const char *wikuay_refusal_text(uint32_t refusal) {
+  switch (refusal) {
+    case 0: return "nothing is refused";
+    case WIKUAY_REFUSED_COMPRESSED: return "the text is compressed";
+    case WIKUAY_REFUSED_NO_TEXT: return "the coding holds no text";
+    case WIKUAY_REFUSED_PREFIXED: return "the coding has the prefix mark";
+    case WIKUAY_REFUSED_WRONG_LENGTH: return "the octets do not fit the service or the count";
+    case WIKUAY_REFUSED_TOO_LONG: return "the text is over the service's size";
+    case WIKUAY_REFUSED_UNLISTED: return "a unit is not in the alphabet";
+    case WIKUAY_REFUSED_NO_ROOM: return "the buffer is too short";
+    case WIKUAY_REFUSED_UNWRITABLE: return "the reading cannot be written under this service";
+    case WIKUAY_REFUSED_NO_SEPTET: return "a septet is 128 or more";
+    case WIKUAY_REFUSED_WRONG_PAGES: return "the pages or parts are not those of one message";
+    case WIKUAY_REFUSED_WRONG_LETTERS: return "the language letters are wrong";
+    case WIKUAY_REFUSED_WRONG_HEADER: return "the user data header is wrong";
+    case WIKUAY_REFUSED_NO_TABLE: return "there is no table for the language";
+    case WIKUAY_REFUSED_ILL_FORMED: return "a sequence is ill-formed, or a surrogate is alone";
+    default: return "there is no such refusal";
+  }
+}
 
 /* The most of each service. A buffer of WIKUAY_MOST_.. elements is never refused 7 by the calls named beside it. */
 #define WIKUAY_SHORT_MESSAGE_SEPTETS 160
@@ -136,7 +191,7 @@ static inline wikuay_reading wikuay_plain(void) {
 /* What a call answers that writes, or that fills a lent buffer. */
 typedef struct {
   uint32_t refusal; /* 0, or a WIKUAY_REFUSED_.. number */
-  uint32_t count;   /* the length count that travels with a short message, else 0 */
+  uint32_t count;   /* the length count that travels with a short message (TP-UDL), else 0 */
   size_t position;  /* the unit or septet of refusal 6 or 9, else 0 */
   size_t written;   /* elements stored at the front of out */
   uint8_t coding;   /* the data coding octet of wikuay_write_coding and wikuay_write_message, else 0 */
@@ -152,33 +207,31 @@ typedef struct {
 } wikuay_read_answer;
 
 /*
- * Reads a data coding octet. Clauses 4 and 5. wikuay-read-coding-unique.
+ * Reads a data coding octet. Clauses 4 and 5.
  * Refuses: 8 unknown service, 2 an old page whose bits 3..0 are not 0.
  */
 wikuay_read_answer wikuay_read_coding(uint32_t service, uint8_t coding);
 
 /*
- * Writes a reading as the smallest octet that reads so. Clauses 4 and 5. wikuay-write-coding-unique.
+ * Writes a reading as the smallest octet that reads so. Clauses 4 and 5.
  * Refuses: 8 unknown service, a field that names nothing, an old page, the reserved mark, no octet reads so.
  */
 wikuay_answer wikuay_write_coding(uint32_t service, wikuay_reading reading);
 
 /*
- * Which text a reading holds. Clauses 4 and 5. wikuay-holds-text-unique.
+ * Which text a reading holds. Clauses 4 and 5.
  * Refuses: 8 a field that names nothing, 1, 2, 3.
  */
 wikuay_read_answer wikuay_holds_text(wikuay_reading reading);
 
 /*
  * Packs septets into octets, filling and added carriage return included. Clauses 6.1.2.1, 6.1.2.2 and 6.1.2.3.
- * wikuay-pack-unique, wikuay-pack-buffer-unique.
  * Refuses: 8 unknown service or an old page, 9, 5, 7. Stores octets; count holds the septets of a short message.
  */
 wikuay_answer wikuay_pack(uint32_t service, const uint8_t *septets, size_t septets_len, uint8_t *out, size_t out_len);
 
 /*
  * Unpacks octets into septets, filling dropped. Clauses 6.1.2.1, 6.1.2.2 and 6.1.2.3.
- * wikuay-unpack-unique, wikuay-unpack-buffer-unique.
  * count is the septets of a short message, and 0 for the other services.
  * Refuses: 8 unknown service, 4, 7. Stores septets.
  */
@@ -187,21 +240,18 @@ wikuay_answer wikuay_unpack(uint32_t service, const uint8_t *octets, size_t octe
 
 /*
  * Text to septets, by the alphabet and its extension. Clauses 6.2.1 and 6.2.1.1.
- * wikuay-text-to-septets-unique, wikuay-text-to-septets-buffer-unique.
  * Refuses: 6, 7. Stores septets, at most two a unit.
  */
 wikuay_answer wikuay_text_to_septets(const uint16_t *text, size_t text_len, uint8_t *out, size_t out_len);
 
 /*
  * Septets to text, by the alphabet and its extension. Clauses 6.2.1 and 6.2.1.1.
- * wikuay-septets-to-text-unique, wikuay-septets-to-text-buffer-unique.
  * Refuses: 9, 7. Stores units, at most one a septet.
  */
 wikuay_answer wikuay_septets_to_text(const uint8_t *septets, size_t septets_len, uint16_t *out, size_t out_len);
 
 /*
  * Reads a message: its text, and what its coding octet says. Clauses 4, 5 and 6.
- * wikuay-read-message-unique, wikuay-read-message-buffer-unique; read-accepts and write-reads in docs/DEMANDS.md.
  * count is the septets of a 7-bit short message, the octets of a UCS2 one, and 0 for the other services.
  * Refuses: 8 unknown service, 1, 2, 3, 4, 7. Stores units.
  */
@@ -210,7 +260,6 @@ wikuay_read_answer wikuay_read_message(uint32_t service, uint8_t coding, size_t 
 
 /*
  * Writes a message: the octets of a text under a reading, with the length count and the coding octet. Clauses 4, 5, 6.
- * wikuay-write-message-unique, wikuay-write-message-buffer-unique; write-accepts in docs/DEMANDS.md.
  * Refuses: 8 unknown service, a field that names nothing, a reading that cannot be written; 1, 2, 3, 6, 5, 7.
  * Stores octets.
  */

@@ -1,0 +1,59 @@
+/*
+ * What stands in include/wikuay.h alone: the version, and the names and texts of the refusals. Prints the number and the text of each
+ * refusal that is given today. C99 and C++11.
+ */
+#include <stdio.h>
+#include <string.h>
+#include <wikuay.h>
+
+/* A constant with its own spelling. */
+#define NAMED(constant) {constant, #constant}
+
+static const struct {
+  uint32_t number;
+  const char *name;
+} refusals[] = {
+    {0, "none"},
+    NAMED(WIKUAY_REFUSED_COMPRESSED),
+    NAMED(WIKUAY_REFUSED_NO_TEXT),
+    NAMED(WIKUAY_REFUSED_PREFIXED),
+    NAMED(WIKUAY_REFUSED_WRONG_LENGTH),
+    NAMED(WIKUAY_REFUSED_TOO_LONG),
+    NAMED(WIKUAY_REFUSED_UNLISTED),
+    NAMED(WIKUAY_REFUSED_NO_ROOM),
+    NAMED(WIKUAY_REFUSED_UNWRITABLE),
+    NAMED(WIKUAY_REFUSED_NO_SEPTET),
+    NAMED(WIKUAY_REFUSED_WRONG_PAGES),
+    NAMED(WIKUAY_REFUSED_WRONG_LETTERS),
+    NAMED(WIKUAY_REFUSED_WRONG_HEADER),
+    NAMED(WIKUAY_REFUSED_NO_TABLE),
+    NAMED(WIKUAY_REFUSED_ILL_FORMED),
+};
+enum { KNOWN = sizeof refusals / sizeof refusals[0], GIVEN = 9 };
+
+static int differ(const char *what, const char *got, const char *expected) {
+  if (strcmp(got, expected) == 0) return 0;
+  printf("%s: '%s', and not '%s'\n", what, got, expected);
+  return 1;
+}
+
+int main(void) {
+  char version[32];
+  int faults = 0;
+  snprintf(version, sizeof version, "%d.%d.%d", WIKUAY_VERSION_MAJOR, WIKUAY_VERSION_MINOR, WIKUAY_VERSION_PATCH);
+  faults += differ("version", WIKUAY_VERSION, version);
+#if WIKUAY_VERSION_NUMBER < 100 || WIKUAY_VERSION_NUMBER > 999999
+#error "WIKUAY_VERSION_NUMBER is wrong"
+#endif
+  for (uint32_t n = 0; n < KNOWN; n++) {
+    if (refusals[n].number != n) faults += differ("the order of the constants", refusals[n].name, "another");
+    faults += differ("name", wikuay_refusal_name(n), refusals[n].name);
+    for (uint32_t m = 0; m < n; m++)
+      if (strcmp(wikuay_refusal_text(m), wikuay_refusal_text(n)) == 0) faults += differ("text twice", refusals[m].name, refusals[n].name);
+    if (1 <= n && n <= GIVEN) printf("%u %s\n", (unsigned)n, wikuay_refusal_text(n));
+  }
+  faults += differ("name", wikuay_refusal_name(KNOWN), "unknown");
+  faults += differ("name", wikuay_refusal_name(UINT32_MAX), "unknown");
+  faults += differ("text", wikuay_refusal_text(KNOWN), "there is no such refusal");
+  return faults != 0;
+}
