@@ -13,3 +13,4 @@ pub mod Arrays
 pub mod Sent
 pub mod Calls
 pub mod RoundTrips
+pub mod Examples
