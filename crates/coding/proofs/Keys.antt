@@ -7,13 +7,13 @@ use native.Mathlib.Omega.{arith}
 use lib.Dec.{eqb, lit≤}
 use lib.ListN.{getD}
 use Rattle.keys.specs.Keys.{keyFrom, alphabetDigit, classDigit, languageDigit, noticeDigit, compressedDigit, deletionDigit, prefixDigit, reservedDigit}
-use Rattle.coding.specs.declared.Alphabet.the-variants.{SevenBit}
-use Rattle.coding.specs.declared.Class.the-variants.{Unset}
-use Rattle.coding.specs.declared.Language.the-variants.{German}
+use Rattle.fields.specs.declared.Alphabet.the-variants.{SevenBit}
+use Rattle.fields.specs.declared.Class.the-variants.{Unset}
+use Rattle.fields.specs.declared.Language.the-variants.{German}
 use Rattle.coding.specs.declared.Reading.{Reading}
-use Rattle.coding.specs.Numbers.{alphabetNo, classNo, languageNo, noticeNo, flagNo, alphabets, classes, languages}
-use Rattle.coding.specs.Inner.{keyOf, readingOf, noticeAt}
-use Rattle.coding.proofs.Numbered.{alphabet-named, class-named, language-named, flag-named, notice-below, notice-back}
+use Rattle.fields.specs.Numbers.{alphabetNo, classNo, languageNo, noticeNo, flagNo, alphabets, classes, languages, noticeAt}
+use Rattle.coding.specs.Inner.{keyOf, readingOf}
+use Rattle.fields.proofs.Numbered.{alphabet-named, class-named, language-named, flag-named, notice-below, notice-back}
 
 pub fields : (a b : Reading) → a .alphabet ≡ b .alphabet → a .compressed ≡ b .compressed → a .class ≡ b .class → a .language ≡ b .language → a .deletion ≡ b .deletion → a .notice ≡ b .notice → a .prefix ≡ b .prefix → a .reserved ≡ b .reserved → a ≡ b
 fields a b p₀ p₁ p₂ p₃ p₄ p₅ p₆ p₇ i = record { alphabet = p₀ i; compressed = p₁ i; class = p₂ i; language = p₃ i; deletion = p₄ i; notice = p₅ i; prefix = p₆ i; reserved = p₇ i }

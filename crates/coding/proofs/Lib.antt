@@ -1,4 +1,3 @@
-pub mod Numbered
 pub mod Keys
 pub mod Same
 pub mod Octets

@@ -10,9 +10,9 @@ use Rattle.words.proofs.Tests.{everyBelow, every-below}
 use Rattle.coding.specs.declared.Reading.{Reading}
 use Rattle.coding.specs.OctetRead.{classIn, discardIn, storeIn, generalReading, noticeReading, lastReading, readShort, readPage}
 use Rattle.keys.specs.Keys.{alphabetDigit, classDigit, languageDigit, generalKey, noticeKey, lastKey, shortKey, pageKey}
-use Rattle.coding.specs.Numbers.{alphabets, classes, languages}
+use Rattle.fields.specs.Numbers.{alphabets, classes, languages}
 use Rattle.coding.specs.Inner.{keyOf, readingOf}
-use Rattle.coding.proofs.Numbered.{alphabet-named, class-named, language-named}
+use Rattle.fields.proofs.Numbered.{alphabet-named, class-named, language-named}
 use Rattle.coding.proofs.Keys.{key-digits, key-reading}
 
 abbrev keyed : (ℕ → ℕ) → (ℕ → Reading) → ℕ → Bool

@@ -6,11 +6,11 @@ use Prim.Native.Nat.{ℕ}
 use lib.Dec.{eqb, T, eqb→eq, eqb-refl}
 use borrow.Author.Tests.{eq-eqb}
 use Rattle.coding.specs.declared.Reading.{Reading}
-use Rattle.coding.specs.Numbers.{alphabetNo, classNo, languageNo, noticeNo, flagNo}
+use Rattle.fields.specs.Numbers.{alphabetNo, classNo, languageNo, noticeNo, flagNo}
 use Rattle.coding.specs.OctetWritten.{sameCoding}
 use Rattle.coding.specs.Inner.{keyOf, readingOf}
 use Rattle.coding.proofs.Keys.{fields, key-reading}
-use Rattle.coding.proofs.Numbered.{alphabet-injective, class-injective, language-injective, flag-injective, notice-injective}
+use Rattle.fields.proofs.Numbered.{alphabet-injective, class-injective, language-injective, flag-injective, notice-injective}
 
 -- each part of a test that goes on only where the part before it holds
 first : (t u : Bool) → T (cond t u false) → T t

@@ -7,8 +7,8 @@ use mathlib.Core.List.{List, [], _∷_}
 use Rattle.words.specs.Judging.{Rule, when, verdict, settle}
 use Rattle.words.specs.declared.Service.{Service}
 use Rattle.words.specs.declared.Refusal.the-variants.{Compressed, NoText, Prefixed}
-use Rattle.coding.specs.declared.Alphabet.{Alphabet}
-use Rattle.coding.specs.declared.Alphabet.the-variants.{SevenBit, EightBit, Ucs2, Wap}
+use Rattle.fields.specs.declared.Alphabet.{Alphabet}
+use Rattle.fields.specs.declared.Alphabet.the-variants.{SevenBit, EightBit, Ucs2, Wap}
 use Rattle.coding.specs.declared.Reading.{Reading}
 use Rattle.coding.specs.declared.Held.{Held}
 use Rattle.coding.specs.declared.Held.the-variants.{Septets, Units, Refused}

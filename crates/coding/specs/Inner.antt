@@ -9,29 +9,23 @@ use lib.Dec.{eqb, ltb}
 use lib.ListN.{getD}
 use Rattle.words.specs.declared.Refusal.the-variants.{Unwritable}
 use Rattle.keys.specs.Keys.{keyFrom, alphabetDigit, classDigit, languageDigit, noticeDigit, compressedDigit, deletionDigit, prefixDigit, reservedDigit}
-use Rattle.coding.specs.declared.Alphabet.the-variants.{SevenBit}
-use Rattle.coding.specs.declared.Class.the-variants.{Unset}
-use Rattle.coding.specs.declared.Language.the-variants.{German}
-use Rattle.coding.specs.declared.Kind.the-variants.{Voicemail}
-use Rattle.coding.specs.declared.Notice.{Notice}
-use Rattle.coding.specs.declared.Notice.the-variants.{Nothing, Discard, Store}
+use Rattle.fields.specs.declared.Alphabet.the-variants.{SevenBit}
+use Rattle.fields.specs.declared.Class.the-variants.{Unset}
+use Rattle.fields.specs.declared.Language.the-variants.{German}
+use Rattle.fields.specs.declared.Kind.the-variants.{Voicemail}
+use Rattle.fields.specs.declared.Notice.{Notice}
+use Rattle.fields.specs.declared.Notice.the-variants.{Nothing, Discard, Store}
 use Rattle.coding.specs.declared.Reading.{Reading}
 use Rattle.coding.specs.declared.OctetWritten.{OctetWritten}
 use Rattle.coding.specs.declared.OctetWritten.the-variants.{Done, Refused}
 use Rattle.coding.specs.Readings.{readingFrom}
-use Rattle.coding.specs.Numbers.{alphabetNo, classNo, languageNo, noticeNo, flagNo, alphabets, classes, languages, kinds}
+use Rattle.fields.specs.Numbers.{alphabetNo, classNo, languageNo, noticeNo, flagNo, alphabets, classes, languages, noticeAt}
 
 unfoldable pub keyOf : Reading → ℕ
 keyOf r =
     keyFrom (alphabetNo (r .alphabet)) (classNo (r .class)) (languageNo (r .language)) (noticeNo (r .notice)) (flagNo (r .compressed)) (flagNo (r .deletion)) (flagNo (r .prefix)) (flagNo (r .reserved))
 
 -- the reading of a key, field by field
-abbrev pub noticeAt : ℕ → Notice
-noticeAt n =
-    cond (eqb n 0) Nothing
-    (cond (ltb n 32) (Discard (eqb (n / 8 % 2) 1) (getD kinds (n % 4) Voicemail))
-    (Store (eqb (n / 8 % 2) 1) (getD kinds (n % 4) Voicemail)))
-
 unfoldable pub readingOf : ℕ → Reading
 readingOf k =
     readingFrom (getD alphabets (alphabetDigit k) SevenBit) (eqb (compressedDigit k) 1) (getD classes (classDigit k) Unset) (getD languages (languageDigit k) German) (eqb (deletionDigit k) 1) (noticeAt (noticeDigit k)) (eqb (prefixDigit k) 1) (eqb (reservedDigit k) 1)

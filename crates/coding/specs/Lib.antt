@@ -1,6 +1,5 @@
 pub mod Readings
 pub mod OctetRead
-pub mod Numbers
 pub mod OctetWritten
 pub mod Holding
 pub mod Counts

@@ -15,16 +15,16 @@ use Rattle.words.specs.Judging.{Rule, when, verdict, settle, serviceRules}
 use Rattle.words.specs.declared.Service.{Service}
 use Rattle.words.specs.declared.Service.the-variants.{ShortMessage, Broadcast, Ussd, OldPage}
 use Rattle.words.specs.declared.Refusal.the-variants.{NoText}
-use Rattle.coding.specs.declared.Alphabet.{Alphabet}
-use Rattle.coding.specs.declared.Alphabet.the-variants.{SevenBit, EightBit, Ucs2, Wap}
-use Rattle.coding.specs.declared.Class.{Class}
-use Rattle.coding.specs.declared.Class.the-variants.{Unset, Class0, Class1, Class2, Class3, User1, User2}
-use Rattle.coding.specs.declared.Language.{Language}
-use Rattle.coding.specs.declared.Language.the-variants.{German, English, Italian, French, Spanish, Dutch, Swedish, Danish, Portuguese, Finnish, Norwegian, Greek, Turkish, Hungarian, Polish, Unspecified, Czech}
-use Rattle.coding.specs.declared.Kind.{Kind}
-use Rattle.coding.specs.declared.Kind.the-variants.{Voicemail, Fax, Mail, Other}
-use Rattle.coding.specs.declared.Notice.{Notice}
-use Rattle.coding.specs.declared.Notice.the-variants.{Discard, Store}
+use Rattle.fields.specs.declared.Alphabet.{Alphabet}
+use Rattle.fields.specs.declared.Alphabet.the-variants.{SevenBit, EightBit, Ucs2, Wap}
+use Rattle.fields.specs.declared.Class.{Class}
+use Rattle.fields.specs.declared.Class.the-variants.{Unset, Class0, Class1, Class2, Class3, User1, User2}
+use Rattle.fields.specs.declared.Language.{Language}
+use Rattle.fields.specs.declared.Language.the-variants.{German, English, Italian, French, Spanish, Dutch, Swedish, Danish, Portuguese, Finnish, Norwegian, Greek, Turkish, Hungarian, Polish, Unspecified, Czech}
+use Rattle.fields.specs.declared.Kind.{Kind}
+use Rattle.fields.specs.declared.Kind.the-variants.{Voicemail, Fax, Mail, Other}
+use Rattle.fields.specs.declared.Notice.{Notice}
+use Rattle.fields.specs.declared.Notice.the-variants.{Discard, Store}
 use Rattle.coding.specs.declared.Reading.{Reading}
 use Rattle.coding.specs.declared.OctetRead.{OctetRead}
 use Rattle.coding.specs.declared.OctetRead.the-variants.{Done, Refused}

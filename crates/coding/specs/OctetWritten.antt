@@ -17,7 +17,7 @@ use Rattle.words.specs.declared.Refusal.the-variants.{Unwritable}
 use Rattle.coding.specs.declared.Reading.{Reading}
 use Rattle.coding.specs.declared.OctetWritten.{OctetWritten}
 use Rattle.coding.specs.declared.OctetWritten.the-variants.{Done, Refused}
-use Rattle.coding.specs.Numbers.{alphabetNo, classNo, languageNo, noticeNo, flagNo}
+use Rattle.fields.specs.Numbers.{alphabetNo, classNo, languageNo, noticeNo, flagNo}
 use Rattle.coding.specs.OctetRead.{readUnder}
 
 abbrev pub sameCoding : Reading → Reading → Bool

@@ -7,14 +7,14 @@
 --   withAlphabet a r, withCompressed b r, withClass c r, withLanguage l r, withDeletion b r, withNotice n r, withPrefix b r
 --                     == r with that field changed
 use mathlib.Core.Bool.{Bool, true, false, cond}
-use Rattle.coding.specs.declared.Alphabet.{Alphabet}
-use Rattle.coding.specs.declared.Alphabet.the-variants.{SevenBit, Ucs2}
-use Rattle.coding.specs.declared.Class.{Class}
-use Rattle.coding.specs.declared.Class.the-variants.{Unset}
-use Rattle.coding.specs.declared.Language.{Language}
-use Rattle.coding.specs.declared.Language.the-variants.{Unspecified}
-use Rattle.coding.specs.declared.Notice.{Notice}
-use Rattle.coding.specs.declared.Notice.the-variants.{Nothing}
+use Rattle.fields.specs.declared.Alphabet.{Alphabet}
+use Rattle.fields.specs.declared.Alphabet.the-variants.{SevenBit, Ucs2}
+use Rattle.fields.specs.declared.Class.{Class}
+use Rattle.fields.specs.declared.Class.the-variants.{Unset}
+use Rattle.fields.specs.declared.Language.{Language}
+use Rattle.fields.specs.declared.Language.the-variants.{Unspecified}
+use Rattle.fields.specs.declared.Notice.{Notice}
+use Rattle.fields.specs.declared.Notice.the-variants.{Nothing}
 use Rattle.coding.specs.declared.Reading.{Reading}
 
 -- the one place that makes a reading: what it holds besides is the same in all of them

@@ -4,13 +4,22 @@ ghost use Prim.Native.Nat.{_<_};
 ghost use lib.ListN.{length};
 ghost use Rattle.coding.specs.Readings.{readingFrom, unmentioned, plainIn, withAlphabet};
 ghost use Rattle.coding.specs.OctetRead.{octetReads};
-ghost use Rattle.coding.specs.Numbers.{alphabetNo, classNo, languageNo, kindNo, noticeNo, flagNo, alphabets, classes, languages};
+ghost use Rattle.fields.specs.Numbers.{alphabets, classes, languages};
 ghost use Rattle.coding.specs.OctetWritten.{octetWrites};
 ghost use Rattle.coding.specs.declared.OctetWritten.the-variants.{Done};
 ghost use mathlib.Core.Bool.{cond};
 ghost use Rattle.keys.specs.Keys.{alphabetDigit, classDigit, languageDigit};
 ghost use Rattle.coding.specs.Holding.{holdsText};
-ghost use Rattle.coding.specs.Inner.{keyOf, noticeAt, readingOf, writtenAs};
+ghost use Rattle.coding.specs.Inner.{keyOf, readingOf, writtenAs};
+use fields::ALPHABETS;
+use fields::Alphabet;
+use fields::CLASSES;
+use fields::Class;
+use fields::LANGUAGES;
+use fields::Language;
+use fields::Notice;
+use fields::flag;
+use fields::notice_at;
 use keys::CLASS;
 use keys::COMPRESSED;
 use keys::DELETION;
@@ -20,58 +29,6 @@ use keys::PREFIX;
 use keys::RESERVED;
 use words::Refusal;
 use words::Service;
-
-pub enum Alphabet {
-    SevenBit,
-    EightBit,
-    Ucs2,
-    Wap,
-}
-
-pub enum Class {
-    Unset,
-    Class0,
-    Class1,
-    Class2,
-    Class3,
-    User1,
-    User2,
-}
-
-pub enum Language {
-    German,
-    English,
-    Italian,
-    French,
-    Spanish,
-    Dutch,
-    Swedish,
-    Danish,
-    Portuguese,
-    Finnish,
-    Norwegian,
-    Greek,
-    Turkish,
-    Hungarian,
-    Polish,
-    Unspecified,
-    Czech,
-}
-
-// What waits for the subscriber.
-pub enum Kind {
-    Voicemail,
-    Fax,
-    Mail,
-    Other,
-}
-
-// A waiting notice; one that is not active is still a notice.
-pub enum Notice {
-    Nothing,
-    Discard { active: bool, kind: Kind },
-    Store { active: bool, kind: Kind },
-}
 
 // What a data coding octet says.
 pub struct Reading {
@@ -102,101 +59,6 @@ pub enum Held {
     Septets,
     Units,
     Refused(Refusal),
-}
-
-impl Alphabet {
-    // Its number, from 0.
-    pub fn number(self) -> u8
-        ensures answer { λ r. ⌜ r ≡ alphabetNo self ⌝ }
-    {
-        match self {
-            Alphabet::SevenBit => 0,
-            Alphabet::EightBit => 1,
-            Alphabet::Ucs2 => 2,
-            Alphabet::Wap => 3,
-        }
-    }
-}
-
-impl Class {
-    // Its number: 0 for no class, then the classes in order.
-    pub fn number(self) -> u8
-        ensures answer { λ r. ⌜ r ≡ classNo self ⌝ }
-    {
-        match self {
-            Class::Unset => 0,
-            Class::Class0 => 1,
-            Class::Class1 => 2,
-            Class::Class2 => 3,
-            Class::Class3 => 4,
-            Class::User1 => 5,
-            Class::User2 => 6,
-        }
-    }
-}
-
-impl Language {
-    // Its number: 0 to 15 as bits 3..0 of group 0000, then Czech.
-    pub fn number(self) -> u8
-        ensures answer { λ r. ⌜ r ≡ languageNo self ⌝ }
-    {
-        match self {
-            Language::German => 0,
-            Language::English => 1,
-            Language::Italian => 2,
-            Language::French => 3,
-            Language::Spanish => 4,
-            Language::Dutch => 5,
-            Language::Swedish => 6,
-            Language::Danish => 7,
-            Language::Portuguese => 8,
-            Language::Finnish => 9,
-            Language::Norwegian => 10,
-            Language::Greek => 11,
-            Language::Turkish => 12,
-            Language::Hungarian => 13,
-            Language::Polish => 14,
-            Language::Unspecified => 15,
-            Language::Czech => 16,
-        }
-    }
-}
-
-impl Kind {
-    // Its number, as bits 1..0 of a waiting notice.
-    pub fn number(self) -> u8
-        ensures answer { λ r. ⌜ r ≡ kindNo self ⌝ }
-    {
-        match self {
-            Kind::Voicemail => 0,
-            Kind::Fax => 1,
-            Kind::Mail => 2,
-            Kind::Other => 3,
-        }
-    }
-}
-
-fn flag(b: bool) -> u8
-    ensures { λ r. ⌜ r ≡ flagNo b ⌝ }
-{
-    if b { 1 } else { 0 }
-}
-
-impl Notice {
-    // Its number: 0 for none, else the octet of group 1100 or 1101 that says so, less B0 (hexadecimal).
-    pub fn number(self) -> u16
-        ensures answer { λ r. ⌜ r ≡ noticeNo self ⌝ }
-    {
-        match self {
-            Notice::Nothing => 0,
-            Notice::Discard { active, kind } => {
-                16 + 8 * (flag(active) as u16) + (kind.number() as u16)
-            }
-            Notice::Store { active, kind } => {
-                32 + 8 * (flag(active) as u16) + (kind.number() as u16)
-            }
-        }
-    }
 }
 
 impl Reading {
@@ -281,68 +143,6 @@ impl Reading {
     }
 }
 
-pub const ALPHABETS: [Alphabet; 4] = [
-    Alphabet::SevenBit,
-    Alphabet::EightBit,
-    Alphabet::Ucs2,
-    Alphabet::Wap,
-];
-
-pub const CLASSES: [Class; 7] = [
-    Class::Unset,
-    Class::Class0,
-    Class::Class1,
-    Class::Class2,
-    Class::Class3,
-    Class::User1,
-    Class::User2,
-];
-
-pub const LANGUAGES: [Language; 17] = [
-    Language::German,
-    Language::English,
-    Language::Italian,
-    Language::French,
-    Language::Spanish,
-    Language::Dutch,
-    Language::Swedish,
-    Language::Danish,
-    Language::Portuguese,
-    Language::Finnish,
-    Language::Norwegian,
-    Language::Greek,
-    Language::Turkish,
-    Language::Hungarian,
-    Language::Polish,
-    Language::Unspecified,
-    Language::Czech,
-];
-
-pub const KINDS: [Kind; 4] = [Kind::Voicemail, Kind::Fax, Kind::Mail, Kind::Other];
-
-fn notice_at(n: u32) -> Notice
-    ensures { λ r. ⌜ r ≡ noticeAt n ⌝ }
-{
-    if n == 0 {
-        return Notice::Nothing;
-    }
-    let i = (n % 4) as usize;
-    let kinds = KINDS;
-    let kind = kinds[i];
-    let active = n / 8 % 2 == 1;
-    if n < 32 {
-        Notice::Discard {
-            active: active,
-            kind: kind,
-        }
-    } else {
-        Notice::Store {
-            active: active,
-            kind: kind,
-        }
-    }
-}
-
 // The reading of a key whose fields have values.
 fn reading_of(key: u32) -> Reading
     requires { ⌜ (alphabetDigit key < length alphabets) × (classDigit key < length classes) × (languageDigit key < length languages) ⌝ }
@@ -375,9 +175,9 @@ pub fn read_octet(service: Service, octet: u8) -> OctetRead
     ensures answer { λ r. ⌜ r ≡ octetReads service octet ⌝ }
 {
     match service {
-        Service::ShortMessage => OctetRead::Done(reading_of(keys::short_key(octet))),
-        Service::Broadcast => OctetRead::Done(reading_of(keys::page_key(octet))),
-        Service::Ussd => OctetRead::Done(reading_of(keys::page_key(octet))),
+        Service::ShortMessage => OctetRead::Done(reading_of(short_keys::short_key(octet))),
+        Service::Broadcast => OctetRead::Done(reading_of(page_keys::page_key(octet))),
+        Service::Ussd => OctetRead::Done(reading_of(page_keys::page_key(octet))),
         Service::OldPage => {
             if 0 < octet % 16 {
                 OctetRead::Refused(Refusal::NoText)

@@ -2,13 +2,13 @@
 -- Assumes nothing.
 use mathlib.Core.Path.{_∙_, sym}
 use Rattle.words.proofs.Unique.{OneAnswer}
-use Rattle.keys.proofs.short_key.Kinds as short-key-kinds
-use Rattle.keys.proofs.short_key.Reads as short-key-reads
-use Rattle.keys.proofs.page_key.Kinds as page-key-kinds
-use Rattle.keys.proofs.page_key.Reads as page-key-reads
+use Rattle.keys.proofs.general_key.Kinds as general-key-kinds
+use Rattle.keys.proofs.general_key.Reads as general-key-reads
+use Rattle.keys.proofs.last_key.Kinds as last-key-kinds
+use Rattle.keys.proofs.last_key.Reads as last-key-reads
 
-pub short-key-unique : OneAnswer short-key-kinds.ps short-key-kinds.r short-key-reads.Post
-short-key-unique κs a x y u v p q = p ∙ sym q
+pub general-key-unique : OneAnswer general-key-kinds.ps general-key-kinds.r general-key-reads.Post
+general-key-unique κs a x y u v p q = p ∙ sym q
 
-pub page-key-unique : OneAnswer page-key-kinds.ps page-key-kinds.r page-key-reads.Post
-page-key-unique κs a x y u v p q = p ∙ sym q
+pub last-key-unique : OneAnswer last-key-kinds.ps last-key-kinds.r last-key-reads.Post
+last-key-unique κs a x y u v p q = p ∙ sym q

@@ -1,7 +1,7 @@
-// The key of a data coding octet: one number for all that it says under a service, each field in a place of its own.
+// The key of a data coding octet: one number for all that it says under a service, each field in a place of its own; and the keys of the
+// groups that short messages and pages share.
 ghost use mathlib.Core.Path.{_≡_};
-ghost use Prim.Native.Nat.{_<_};
-ghost use Rattle.keys.specs.Keys.{generalKey, noticeKey, lastKey, shortKey, pageKey};
+ghost use Rattle.keys.specs.Keys.{generalKey, lastKey};
 
 // The places of a key, above the alphabet: what 1 of each field counts.
 pub const CLASS: u32 = 8;
@@ -26,11 +26,11 @@ pub const WAP: u32 = 3;
 // The keys of what a rule does not mention, and of a reserved coding.
 pub const PLAIN: u32 = 960;
 
-const UNKNOWN: u32 = 1049536;
+pub const UNKNOWN: u32 = 1049536;
 
 // Groups 00xx and 01xx.
-fn general_key(octet: u8, deletion: u8) -> u32
-    ensures { λ r. ⌜ r ≡ generalKey octet deletion ⌝ }
+pub fn general_key(octet: u8, deletion: u8) -> u32
+    ensures answer { λ r. ⌜ r ≡ generalKey octet deletion ⌝ }
 {
     let alphabet = (octet / 4 % 4) as u32;
     if alphabet == 3 {
@@ -47,84 +47,12 @@ fn general_key(octet: u8, deletion: u8) -> u32
     }
 }
 
-// Groups 1100, 1101 and 1110: a notice to discard is 16 and on, one to store 32 and on.
-fn notice_key(octet: u8, group: u8, alphabet: u32) -> u32
-    requires { ⌜ alphabet < 8 ⌝ }
-    ensures { λ r. ⌜ r ≡ noticeKey octet group alphabet ⌝ }
-{
-    if octet / 4 % 2 == 1 {
-        return UNKNOWN;
-    }
-    let notice = (group as u32) + 8 * ((octet / 8 % 2) as u32) + ((octet % 4) as u32);
-    PLAIN + alphabet + NOTICE * notice
-}
-
 // Group 1111, with the class of that number.
-fn last_key(octet: u8, class: u8) -> u32
-    ensures { λ r. ⌜ r ≡ lastKey octet class ⌝ }
+pub fn last_key(octet: u8, class: u8) -> u32
+    ensures answer { λ r. ⌜ r ≡ lastKey octet class ⌝ }
 {
     if octet / 8 % 2 == 1 {
         return UNKNOWN;
     }
     PLAIN + ((octet / 4 % 2) as u32) + CLASS * (class as u32)
-}
-
-// How an octet reads in a short message.
-pub fn short_key(octet: u8) -> u32
-    ensures answer { λ r. ⌜ r ≡ shortKey octet ⌝ }
-{
-    if octet < 0x40 {
-        return general_key(octet, 0);
-    }
-    if octet < 0x80 {
-        return general_key(octet, 1);
-    }
-    if octet < 0xc0 {
-        return UNKNOWN;
-    }
-    if octet < 0xd0 {
-        return notice_key(octet, 16, 0);
-    }
-    if octet < 0xe0 {
-        return notice_key(octet, 32, 0);
-    }
-    if octet < 0xf0 {
-        return notice_key(octet, 32, UCS2);
-    }
-    last_key(octet, octet % 4 + 1)
-}
-
-// The numbers of no class, user-defined 1 and 2, class 3.
-const USER_CLASSES: [u8; 4] = [0, 5, 6, 4];
-
-// How an octet reads in a broadcast page and in USSD.
-pub fn page_key(octet: u8) -> u32
-    ensures answer { λ r. ⌜ r ≡ pageKey octet ⌝ }
-{
-    if octet < 0x10 {
-        return LANGUAGE * (octet as u32);
-    }
-    if octet == 0x10 {
-        return PLAIN + PREFIX;
-    }
-    if octet == 0x11 {
-        return PLAIN + UCS2 + PREFIX;
-    }
-    if octet == 0x20 {
-        return LANGUAGE * 16;
-    }
-    if octet < 0x40 {
-        return UNKNOWN;
-    }
-    if octet < 0x80 {
-        return general_key(octet, 0);
-    }
-    if octet < 0xe0 {
-        return UNKNOWN;
-    }
-    if octet < 0xf0 {
-        return PLAIN + WAP;
-    }
-    let i = (octet % 4) as usize;
-    last_key(octet, USER_CLASSES[i])
 }

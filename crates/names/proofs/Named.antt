@@ -13,25 +13,26 @@ use borrow.Author.Tests.{ltb-true, ltb-false, lt-ltb, eqb-true}
 use Rattle.words.specs.declared.Service.{Service}
 use Rattle.words.specs.declared.Service.the-variants.{ShortMessage, Broadcast, Ussd, OldPage}
 use Rattle.words.proofs.Tests.{and-left, and-right, everyBelow, every-below}
-use Rattle.coding.specs.declared.Alphabet.the-variants.{SevenBit}
-use Rattle.coding.specs.declared.Class.the-variants.{Unset}
-use Rattle.coding.specs.declared.Language.the-variants.{German}
-use Rattle.coding.specs.declared.Kind.the-variants.{Voicemail, Fax, Mail, Other}
-use Rattle.coding.specs.declared.Notice.{Notice}
-use Rattle.coding.specs.declared.Notice.the-variants.{Nothing, Discard, Store}
+use Rattle.fields.specs.declared.Alphabet.the-variants.{SevenBit}
+use Rattle.fields.specs.declared.Class.the-variants.{Unset}
+use Rattle.fields.specs.declared.Language.the-variants.{German}
+use Rattle.fields.specs.declared.Kind.the-variants.{Voicemail, Fax, Mail, Other}
+use Rattle.fields.specs.declared.Notice.{Notice}
+use Rattle.fields.specs.declared.Notice.the-variants.{Nothing, Discard, Store}
 use Rattle.coding.specs.declared.Reading.{Reading}
 use Rattle.coding.specs.Readings.{plainIn}
-use Rattle.coding.specs.Numbers.{alphabetNo, classNo, languageNo, kindNo, noticeNo, flagNo, alphabets, classes, languages, kinds}
-use Rattle.coding.proofs.Numbered.{alphabet-named, class-named, language-named, flag-named}
+use Rattle.fields.specs.Numbers.{alphabetNo, classNo, languageNo, kindNo, noticeNo, flagNo, alphabets, classes, languages, kinds}
+use Rattle.fields.proofs.Numbered.{alphabet-named, class-named, language-named, flag-named}
 use Rattle.names.specs.declared.ReadingNumbers.{ReadingNumbers}
-use Rattle.names.specs.declared.NamedService.{NamedService}
-use Rattle.names.specs.declared.NamedService.the-variants as service
+use Rattle.words.specs.declared.NamedService.{NamedService}
+use Rattle.words.specs.declared.NamedService.the-variants as service
 use Rattle.names.specs.declared.NamedNotice.{NamedNotice}
 use Rattle.names.specs.declared.NamedNotice.the-variants as notice
 use Rattle.names.specs.declared.NamedReading.{NamedReading}
 use Rattle.names.specs.declared.NamedReading.the-variants as reading
 use Rattle.names.specs.Inner.{joinedFields, InOctets}
-use Rattle.names.specs.Names.{serviceNo, namedService, namedNotice, numbersOf, namesFlags, namesFields, readingWith, withNamed, namedReading}
+use Rattle.words.specs.Services.{serviceNo, namedService}
+use Rattle.names.specs.Names.{namedNotice, numbersOf, namesFlags, namesFields, readingWith, withNamed, namedReading}
 
 -- a choice reads as n where both of its sides do
 cond-reads : {A : Type 0} (reads : A → ℕ) (n : ℕ) (b : Bool) (x y : A) → (b ≡ true → reads x ≡ n) → reads y ≡ n → reads (cond b x y) ≡ n

@@ -2,8 +2,6 @@
 -- Assumes nothing.
 use mathlib.Core.Path.{_∙_, sym}
 use Rattle.words.proofs.Unique.{OneAnswer}
-use Rattle.names.proofs.service.Kinds as service-kinds
-use Rattle.names.proofs.service.Reads as service
 use Rattle.names.proofs.reading.Kinds as reading-kinds
 use Rattle.names.proofs.reading.Reads as reading
 use Rattle.names.proofs.numbers.Kinds as numbers-kinds
@@ -12,9 +10,6 @@ use Rattle.names.proofs.said.settled.Kinds as settled-kinds
 use Rattle.names.proofs.said.settled.Reads as settled
 use Rattle.names.proofs.said.hears.Kinds as hears-kinds
 use Rattle.names.proofs.said.hears.Reads as hears
-
-pub service-unique : OneAnswer service-kinds.ps service-kinds.r service.Post
-service-unique κs a x y u v p q = p ∙ sym q
 
 pub reading-unique : OneAnswer reading-kinds.ps reading-kinds.r reading.Post
 reading-unique κs a x y u v p q = p ∙ sym q

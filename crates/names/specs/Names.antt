@@ -1,47 +1,27 @@
--- The numbers that name a service and a reading where they cross from C.
--- Own rule: the services are 0 to 3 in document 01's order; the fields of a reading have the numbers of crate `coding`.
+-- The numbers that name a reading where they cross from C.
+-- Own rule: the fields of a reading have the numbers of crate `coding`.
 -- Cited by the definitions of the exported calls. Assumes nothing.
---   serviceNo s            == the number of a service
---   namedService n         == the service with the number n, if there is one
 --   namedNotice n          == the notice with the number n, if there is one
 --   numbersOf r            == the numbers of the fields of the reading r
 --   namedReading x         == the reading whose fields have the numbers x, if there is one
---   underService, underReading == what a call gives for a name, or for none
+--   underReading           == what a call gives for a reading, or for none
 use Prim.Native.Nat.{ℕ, _/_, _%_}
 use mathlib.Core.Bool.{Bool, true, false, cond, _&&_}
 use lib.Dec.{eqb, ltb}
 use lib.ListN.{getD}
-use Rattle.words.specs.declared.Service.{Service}
-use Rattle.words.specs.declared.Service.the-variants.{ShortMessage, Broadcast, Ussd, OldPage}
-use Rattle.coding.specs.declared.Alphabet.the-variants.{SevenBit}
-use Rattle.coding.specs.declared.Class.the-variants.{Unset}
-use Rattle.coding.specs.declared.Language.the-variants.{German}
-use Rattle.coding.specs.declared.Kind.the-variants.{Voicemail}
-use Rattle.coding.specs.declared.Notice.{Notice}
-use Rattle.coding.specs.declared.Notice.the-variants.{Nothing, Discard, Store}
+use Rattle.fields.specs.declared.Alphabet.the-variants.{SevenBit}
+use Rattle.fields.specs.declared.Class.the-variants.{Unset}
+use Rattle.fields.specs.declared.Language.the-variants.{German}
+use Rattle.fields.specs.declared.Kind.the-variants.{Voicemail}
+use Rattle.fields.specs.declared.Notice.{Notice}
+use Rattle.fields.specs.declared.Notice.the-variants.{Nothing, Discard, Store}
 use Rattle.coding.specs.declared.Reading.{Reading}
-use Rattle.coding.specs.Numbers.{alphabetNo, classNo, languageNo, noticeNo, flagNo, alphabets, classes, languages, kinds}
+use Rattle.fields.specs.Numbers.{alphabetNo, classNo, languageNo, noticeNo, flagNo, alphabets, classes, languages, kinds}
 use Rattle.names.specs.declared.ReadingNumbers.{ReadingNumbers}
-use Rattle.names.specs.declared.NamedService.{NamedService}
-use Rattle.names.specs.declared.NamedService.the-variants as service
 use Rattle.names.specs.declared.NamedNotice.{NamedNotice}
 use Rattle.names.specs.declared.NamedNotice.the-variants as notice
 use Rattle.names.specs.declared.NamedReading.{NamedReading}
 use Rattle.names.specs.declared.NamedReading.the-variants as reading
-
-abbrev pub serviceNo : Service → ℕ
-serviceNo ShortMessage = 0
-serviceNo Broadcast = 1
-serviceNo Ussd = 2
-serviceNo OldPage = 3
-
-unfoldable pub namedService : ℕ → NamedService
-namedService n =
-    cond (eqb n 0) (service.Named ShortMessage)
-    (cond (eqb n 1) (service.Named Broadcast)
-    (cond (eqb n 2) (service.Named Ussd)
-    (cond (eqb n 3) (service.Named OldPage)
-    service.Unnamed)))
 
 -- a notice's number is 4 times how it is kept and whether it is active, and its kind
 unfoldable pub namedNotice : ℕ → NamedNotice
@@ -92,10 +72,6 @@ withNamed x notice.Unnamed = reading.Unnamed
 
 unfoldable pub namedReading : ReadingNumbers → NamedReading
 namedReading x = cond (namesFields x) (withNamed x (namedNotice (x .notice))) reading.Unnamed
-
-abbrev pub underService : {A : Type 0} → NamedService → A → (Service → A) → A
-underService (service.Named s) none given = given s
-underService service.Unnamed none given = none
 
 abbrev pub underReading : {A : Type 0} → NamedReading → A → (Reading → A) → A
 underReading (reading.Named r) none given = given r

@@ -1,16 +1,15 @@
-// Numbers that cross from C, and what they name: a service, and the fields of a reading.
+// Numbers that cross from C, and the reading whose fields they name.
 ghost use mathlib.Core.Path.{_≡_};
 ghost use mathlib.Core.Bool.{true, cond};
 ghost use Prim.Native.Nat.{_<_};
-ghost use Rattle.names.specs.Names.{namedService, namedNotice, namesFlags, namesFields, readingWith, namedReading, numbersOf};
+ghost use Rattle.names.specs.Names.{namedNotice, namesFlags, namesFields, readingWith, namedReading, numbersOf};
 ghost use Rattle.names.specs.Inner.{joinedFields, InOctets};
-ghost use Rattle.coding.specs.Numbers.{flagNo};
 ghost use Rattle.coding.specs.Readings.{plainIn};
 ghost use Rattle.names.specs.declared.NamedReading.the-variants.{Named};
-use coding::Alphabet;
-use coding::Notice;
 use coding::Reading;
-use words::Service;
+use fields::Alphabet;
+use fields::Notice;
+use fields::flag;
 
 pub mod said;
 
@@ -27,12 +26,6 @@ pub struct ReadingNumbers {
     pub notice: u16,
 }
 
-// What a number says of a service.
-pub enum NamedService {
-    Named(Service),
-    Unnamed,
-}
-
 // What a number says of a waiting notice.
 pub enum NamedNotice {
     Named(Notice),
@@ -45,25 +38,6 @@ pub enum NamedReading {
     Unnamed,
 }
 
-// The service with that number.
-pub fn service(number: u32) -> NamedService
-    ensures answer { λ r. ⌜ r ≡ namedService number ⌝ }
-{
-    if number == 0 {
-        return NamedService::Named(Service::ShortMessage);
-    }
-    if number == 1 {
-        return NamedService::Named(Service::Broadcast);
-    }
-    if number == 2 {
-        return NamedService::Named(Service::Ussd);
-    }
-    if number == 3 {
-        return NamedService::Named(Service::OldPage);
-    }
-    NamedService::Unnamed
-}
-
 // The notice with that number.
 fn notice(number: u16) -> NamedNotice
     ensures { λ r. ⌜ r ≡ namedNotice number ⌝ }
@@ -72,7 +46,7 @@ fn notice(number: u16) -> NamedNotice
         return NamedNotice::Named(Notice::Nothing);
     }
     let i = (number % 4) as usize;
-    let kinds = coding::KINDS;
+    let kinds = fields::KINDS;
     let kind = kinds[i];
     let group = number / 4;
     if group == 4 {
@@ -143,13 +117,13 @@ fn with(numbers: ReadingNumbers, notice: Notice) -> Reading
     ensures { λ r. ⌜ r ≡ readingWith numbers notice ⌝ }
 {
     let alphabet_no = numbers.alphabet as usize;
-    let alphabets = coding::ALPHABETS;
+    let alphabets = fields::ALPHABETS;
     let alphabet = alphabets[alphabet_no];
     let class_no = numbers.class as usize;
-    let classes = coding::CLASSES;
+    let classes = fields::CLASSES;
     let class = classes[class_no];
     let language_no = numbers.language as usize;
-    let languages = coding::LANGUAGES;
+    let languages = fields::LANGUAGES;
     let language = languages[language_no];
     Reading {
         alphabet: alphabet,
@@ -249,13 +223,6 @@ pub(crate) fn any_reading(numbers: ReadingNumbers) -> NamedReading
     } else {
         NamedReading::Unnamed
     }
-}
-
-// The number of a flag.
-fn flag(b: bool) -> u8
-    ensures { λ r. ⌜ r ≡ flagNo b ⌝ }
-{
-    if b { 1 } else { 0 }
 }
 
 // The numbers of a reading's fields.

@@ -81,7 +81,7 @@ pub fn short_octet(key: u32) -> u16
         return 0x08;
     }
     let octet = short_try(key);
-    if keys::short_key(octet) == key {
+    if short_keys::short_key(octet) == key {
         octet as u16
     } else {
         NONE
@@ -99,7 +99,7 @@ pub fn page_octet(key: u32) -> u16
         return 0x48;
     }
     let octet = page_try(key);
-    if keys::page_key(octet) == key {
+    if page_keys::page_key(octet) == key {
         octet as u16
     } else {
         NONE

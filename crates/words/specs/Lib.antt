@@ -1,5 +1,6 @@
 pub mod Bits
 pub mod Lists
+pub mod Services
 pub mod Sizes
 pub mod Refusals
 pub mod Judging

@@ -1,9 +1,7 @@
-// The words that every crate shares: the four services with their sizes, the refusals with their numbers, and what is no septet.
+// The words that every crate shares: the four services with their numbers and sizes, and the refusals with their numbers.
 ghost use mathlib.Core.Path.{_≡_};
-ghost use Prim.Native.Nat.{ℕ, _≤_};
-ghost use lib.ListN.{getD};
-ghost use Rattle.words.specs.Lists.{firstWide};
 ghost use Rattle.words.specs.Sizes.{mostSeptets, mostUnits, mostOctets, isOldPage};
+ghost use Rattle.words.specs.Services.{namedService};
 ghost use Rattle.words.specs.Refusals.{numberOf, positionOf};
 
 // What carries the text. An old page is a broadcast page of 1991, which is read only.
@@ -62,6 +60,31 @@ impl Service {
             Service::OldPage => true,
         }
     }
+}
+
+// What a number says of a service.
+pub enum NamedService {
+    Named(Service),
+    Unnamed,
+}
+
+// The service with that number.
+pub fn named_service(number: u32) -> NamedService
+    ensures answer { λ r. ⌜ r ≡ namedService number ⌝ }
+{
+    if number == 0 {
+        return NamedService::Named(Service::ShortMessage);
+    }
+    if number == 1 {
+        return NamedService::Named(Service::Broadcast);
+    }
+    if number == 2 {
+        return NamedService::Named(Service::Ussd);
+    }
+    if number == 3 {
+        return NamedService::Named(Service::OldPage);
+    }
+    NamedService::Unnamed
 }
 
 // Why a call gives no answer. A case holds a position where document 01 gives one.
@@ -148,34 +171,4 @@ pub enum Filled {
     Done(usize),
     // Why it stored none.
     Refused(Refusal),
-}
-
-// The bits that any septet has: one test of the result judges them all. The loop vectorises, sixteen septets at a time.
-fn all_bits(septets: &[u8]) -> u8
-    ensures { λ r. ⌜ ((k : ℕ) → getD (now (septets .entry)) k 0 ≤ r) ⌝ }
-{
-    let mut bits: u8 = 0;
-    let mut i: usize = 0;
-    while i < septets.len() {
-        bits = bits | septets[i];
-        i += 1;
-    }
-    bits
-}
-
-// The place of the first septet of 128 or more, which refusal 9 tells, or the number of septets where there is none.
-pub fn first_wide(septets: &[u8]) -> usize
-    ensures answer { λ r. ⌜ r ≡ firstWide (now (septets .entry)) ⌝ }
-{
-    if all_bits(septets) < 128 {
-        return septets.len();
-    }
-    let mut i: usize = 0;
-    while i < septets.len() {
-        if 128 <= septets[i] {
-            return i;
-        }
-        i += 1;
-    }
-    i
 }

@@ -1,6 +1,6 @@
 -- `reading` meets its contract: numbers of plain text name the plain reading.  Assumes nothing.
 use Rattle.coding.specs.Readings.{withAlphabet}
-use Rattle.coding.specs.declared.Alphabet.the-variants.{Ucs2}
+use Rattle.fields.specs.declared.Alphabet.the-variants.{Ucs2}
 use Rattle.names.specs.declared.NamedReading.the-variants.{Named}
 use mathlib.Core.Path.{ap, sym, _∙_}
 use borrow.Author.Needs.{needs}
