@@ -16,7 +16,7 @@ pub(crate) fn encode_from(text: &[u16], front: usize, out: &mut [u8]) -> Encoded
     let mut n = front;
     let mut i = front;
     while i < text.len() {
-        let entry = tables::entry_of(text[i]);
+        let entry = codes::entry_of(text[i]);
         if entry < 0x80 {
             if n < room {
                 out[n] = entry;

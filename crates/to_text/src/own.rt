@@ -69,15 +69,34 @@ pub(crate) fn eight_bits(septets: &[u8], n: usize) -> u8
     bits
 }
 
-// How many septets at the front are their own units, where as many as `from` were found to be: all of them, or eights from there on. The last
-// eight are tested over again where they overlap: a loop over fewer would go septet by septet.
-fn own_eights(septets: &[u8], from: usize) -> usize
-    requires { ⌜ (8 ≤ length (now septets)) × (from ≤ length (now septets)) × OwnFrom (now septets) 0 from ⌝ }
+// How many septets at the front are their own units, counted by 32. A shorter text is turned away before the loop and what it loads.
+fn own_blocks(septets: &[u8]) -> usize
+    ensures { λ r. ⌜ (r ≤ length (now (septets .entry))) × OwnFrom (now (septets .entry)) 0 r ⌝ }
+{
+    if septets.len() < 32 {
+        return 0;
+    }
+    let mut n: usize = 0;
+    while n + 32 <= septets.len() {
+        if odd_septets(septets, n, n + 32) != 0 {
+            return n;
+        }
+        n += 32;
+    }
+    n
+}
+
+// How many septets at the front are their own units: 32 at a time, then eight, or all of them. None of fewer than
+// eight septets. The last eight are tested over again where they overlap: a loop over fewer would go septet by septet.
+pub(crate) fn own_septets(septets: &[u8]) -> usize
     ensures { λ r. ⌜ (r ≤ length (now (septets .entry))) × OwnFrom (now (septets .entry)) 0 r ⌝ }
 {
     let len = septets.len();
-    let mut n = from;
-    while 8 <= len - n {
+    if len < 8 {
+        return 0;
+    }
+    let mut n = own_blocks(septets);
+    while 8 < len - n {
         if odd_eight(septets, n) != 0 {
             return n;
         }
@@ -87,25 +106,6 @@ fn own_eights(septets: &[u8], from: usize) -> usize
         return n;
     }
     len
-}
-
-// How many septets at the front are their own units: 32 at a time, then eight, or all of them. None of fewer than
-// eight septets.
-pub(crate) fn own_septets(septets: &[u8]) -> usize
-    ensures { λ r. ⌜ (r ≤ length (now (septets .entry))) × OwnFrom (now (septets .entry)) 0 r ⌝ }
-{
-    let len = septets.len();
-    if len < 8 {
-        return 0;
-    }
-    let mut n: usize = 0;
-    while 32 <= len - n {
-        if odd_septets(septets, n, n + 32) != 0 {
-            return own_eights(septets, n);
-        }
-        n += 32;
-    }
-    own_eights(septets, n)
 }
 
 // Lays the first n septets over the front of the buffer as units.

@@ -1,8 +1,9 @@
 // Septets to text, for the present alphabet and for an old page: the passes that judge and count, and the pass that writes.
 ghost use mathlib.Core.Path.{_≡_};
-ghost use mathlib.Core.Bool.{cond};
-ghost use Prim.Native.Nat.{_≤_, _<_};
-ghost use lib.ListN.{length, take};
+ghost use mathlib.Core.Bool.{true, false};
+ghost use mathlib.Core.Logic.{_⊎_};
+ghost use Prim.Native.Nat.{_+_, _≤_, _<_};
+ghost use lib.ListN.{length, take, drop, set};
 ghost use Rattle.words.specs.Lists.{firstWide, laid};
 ghost use Rattle.letters.specs.Reading.{readAs, textAnswers, textLeaves};
 ghost use Rattle.letters.specs.Inner.{OwnFrom, firstRead, Stepped};
@@ -10,42 +11,28 @@ use crate::own;
 use words::Filled;
 use words::Refusal;
 
-// One unit, and the place where reading goes on.
-struct Step {
-    unit: u16,
-    next: usize,
-}
-
-// The unit that is read at i, and where reading goes on: an escape and a code, or one septet. The mark is the one code that is not read by the
-// main table, so that most septets pass one comparison. There is one call of each table, so that the compiler puts it in place.
-fn read_step(septets: &[u8], old: bool, mark: u8, i: usize) -> Step
-    requires { ⌜ (i < length (now septets)) × (mark ≡ cond old 0x11 0x1b) ⌝ }
-    ensures answer { λ r. ⌜ Stepped old (now (septets .entry)) i (r .unit) (r .next) ⌝ }
+// Lays the unit that is read at i over place n of the buffer, and answers where reading goes on. One code is not read by the main table, so that most
+// septets pass one comparison: before `pairs` it is the first of a pair, and from there on a space. Each way stores by itself: of a unit that the ways
+// share the compiler makes jumps in place of tables. A septet is masked for the table alone, so that the compiler needs no test of it.
+fn lay_step(septets: &[u8], old: bool, pairs: usize, i: usize, n: usize, out: &mut [u16]) -> usize
+    requires { ⌜ (i < length (now septets)) × (length (now septets) ≤ firstWide (now septets)) × (n + length (readAs old (drop i (now septets))) ≤ length (now out)) ⌝ }
+    requires { ⌜ ((old ≡ true) × (pairs ≤ i)) ⊎ ((old ≡ false) × (pairs ≡ length (now septets))) ⌝ }
+    ensures answer { λ r. ⌜ Stepped old (now (septets .entry)) i (firstRead old (now (septets .entry)) i) r ⌝ }
+    ensures buffer { λ r. ⌜ now (out .exit) ≡ set (now (out .entry)) n (firstRead old (now (septets .entry)) i) ⌝ }
 {
+    let mark: u8 = if old { 0x11 } else { 0x1b };
     let code = septets[i];
-    let j = i + 1;
+    let next = i + 1;
     if code != mark {
-        return Step {
-            unit: tables::shown_unit(code),
-            next: j,
-        };
+        out[n] = shown::shown_unit(code & 0x7f);
+        return next;
     }
-    if old {
-        return Step {
-            unit: 0x0020,
-            next: j,
-        };
+    if pairs <= next {
+        out[n] = 0x0020;
+        return next;
     }
-    if j == septets.len() {
-        return Step {
-            unit: 0x0020,
-            next: j,
-        };
-    }
-    Step {
-        unit: tables::after_escape(septets[j]),
-        next: j + 1,
-    }
+    out[n] = shown::after_escape(septets[next] & 0x7f);
+    next + 1
 }
 
 // The place after the unit that is read at i.
@@ -84,24 +71,22 @@ fn units_in(septets: &[u8], old: bool) -> usize
 fn lay_text(septets: &[u8], old: bool, front: usize, out: &mut [u16]) -> usize
     requires { ⌜ (front ≤ length (now septets)) × (front ≤ length (now out)) × OwnFrom (now septets) 0 front ⌝ }
     requires { ⌜ take front (now out) ≡ take front (now septets) ⌝ }
-    requires { ⌜ length (readAs old (now septets)) ≤ length (now out) ⌝ }
+    requires { ⌜ (length (readAs old (now septets)) ≤ length (now out)) × (length (now septets) ≤ firstWide (now septets)) ⌝ }
     ensures answer { λ r. ⌜ r ≡ length (readAs old (now (septets .entry))) ⌝ }
     ensures buffer { λ r. ⌜ now (out .exit) ≡ laid (readAs old (now (septets .entry))) (now (out .entry)) ⌝ }
 {
-    let mark: u8 = if old { 0x11 } else { 0x1b };
+    let pairs = if old { front } else { septets.len() };
     let mut n: usize = front;
     let mut i = front;
     while i < septets.len() {
-        let step = read_step(septets, old, mark, i);
-        out[n] = step.unit;
+        i = lay_step(septets, old, pairs, i, n, out);
         n += 1;
-        i = step.next;
     }
     n
 }
 
 // The place of the first septet of 128 or more, or the number of septets where there is none. The first septets are their own units, so that only
-// the others are looked at: up to eight of them by the last eight of all, which is a run of known length.
+// the others are looked at: up to sixteen of them by the first and the last eight, which are runs of known length.
 fn wide_behind(septets: &[u8], front: usize) -> usize
     requires { ⌜ (front ≤ length (now septets)) × OwnFrom (now septets) 0 front ⌝ }
     ensures answer { λ r. ⌜ r ≡ firstWide (now (septets .entry)) ⌝ }
@@ -111,13 +96,18 @@ fn wide_behind(septets: &[u8], front: usize) -> usize
         return len;
     }
     if 8 <= len {
-        if len - front <= 8 {
+        let left = len - front;
+        if left <= 8 {
             if own::eight_bits(septets, len - 8) < 128 {
+                return len;
+            }
+        } else if left <= 16 {
+            if own::eight_bits(septets, front) | own::eight_bits(septets, len - 8) < 128 {
                 return len;
             }
         }
     }
-    let wide = words::first_wide(&septets[front..]);
+    let wide = wide::first_wide(&septets[front..]);
     front + wide
 }
 
@@ -138,7 +128,7 @@ pub(crate) fn read_text(septets: &[u8], old: bool, out: &mut [u16]) -> Filled
         }
     }
     own::copy_septets(septets, front, out);
-    if front == septets.len() {
+    if septets.len() <= front {
         return Filled::Done(front);
     }
     let n = lay_text(septets, old, front, out);

@@ -3,18 +3,11 @@
 use Prim.Native.Nat.{ℕ, _+_, _-_, _≤_, _<_}
 use native.Mathlib.Omega.{arith}
 use borrow.Author.Count.{below-more}
-use lib.Bits.{bitOr, or-add-and, and-le-l, and-le-r}
 use lib.ListN.{getD}
 use borrow.Author.Needs.{needs}
+use Rattle.to_text.proofs.Narrow.{or-left, or-right}
 use Rattle.to_text.proofs.own.eight_bits.Statement.{statement}
 use Rattle.to_text.proofs.own.eight_bits.Tie as tie
-
--- bits that are below 128 together are below it each
-or-left : (a b : ℕ) → bitOr a b < 128 → a < 128
-or-left a b h = omega (arith, h, or-add-and a b, and-le-r a b)
-
-or-right : (a b : ℕ) → bitOr a b < 128 → b < 128
-or-right a b h = omega (arith, h, or-add-and a b, and-le-l a b)
 
 abbrev Inv-loop : tie.InvT-loop
 Inv-loop septets n bits₀ i₀ bits i = (i ≤ n + 8) × (n ≤ i) × (bits < 128 → (k : ℕ) → k < i → n ≤ k → getD septets k 0 < 128)

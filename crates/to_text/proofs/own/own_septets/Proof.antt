@@ -18,25 +18,20 @@ abbrev μ-loop : tie.MeasureT-loop
 returns : tie.Need-returns Inv-loop μ-loop
 returns c = (search needs, own-none (c .before .before .args .septets .now) 0)
 
+own-blocks-requires : tie.Need-own-blocks-requires Inv-loop μ-loop
+own-blocks-requires c κs = search needs
+
 loop-holds : tie.Need-loop-holds Inv-loop μ-loop
-loop-holds c = (search needs, own-none (c .before .before .args .septets .now) 0)
+loop-holds c = c .own-blocks .ensures
 
 sub-loop : tie.Need-sub-loop Inv-loop μ-loop
 sub-loop c = search needs
 
-add-odd-septets : tie.Need-add-odd-septets Inv-loop μ-loop
-add-odd-septets c = search needs
-
-odd-septets-requires : tie.Need-odd-septets-requires Inv-loop μ-loop
-odd-septets-requires c κs = search needs
-
-own-eights-requires : tie.Need-own-eights-requires Inv-loop μ-loop
-own-eights-requires c κs =
-    let at = c .before .before .before in
-    (omega (arith, at .before .if1 .left), at .loop .inv .0, at .loop .inv .1)
+odd-eight-requires : tie.Need-odd-eight-requires Inv-loop μ-loop
+odd-eight-requires c κs = search needs
 
 returns-2 : tie.Need-returns-2 Inv-loop μ-loop
-returns-2 c = c .own-eights .ensures
+returns-2 c = c .before .before .before .loop .inv
 
 add-n : tie.Need-add-n Inv-loop μ-loop
 add-n c = search needs
@@ -47,13 +42,21 @@ loop-less c = search needs
 loop-again : tie.Need-loop-again Inv-loop μ-loop
 loop-again c =
     let at = c .before .before .before in
-    (search needs, own-join (at .before .before .before .args .septets .now) (at .loop .n) (at .loop .n + 32) (at .loop .inv .1) (c .before .odd-septets .ensures (c .if2 .left)))
+    (search needs, own-join (at .before .before .before .before .args .septets .now) (at .loop .n) (at .loop .n + 8) (at .loop .inv .1) (c .before .odd-eight .ensures (c .if2 .left)))
 
-own-eights-requires-2 : tie.Need-own-eights-requires-2 Inv-loop μ-loop
-own-eights-requires-2 c κs = (omega (arith, c .before .before .if1 .left), c .before .loop .inv .0, c .before .loop .inv .1)
+odd-eight-requires-2 : tie.Need-odd-eight-requires-2 Inv-loop μ-loop
+odd-eight-requires-2 c κs = search needs
 
 returns-3 : tie.Need-returns-3 Inv-loop μ-loop
-returns-3 c = c .own-eights2 .ensures
+returns-3 c = c .before .before .before .loop .inv
+
+-- the last eight reach to the end from where the loop ended or from before
+returns-4 : tie.Need-returns-4 Inv-loop μ-loop
+returns-4 c =
+    let at = c .before .before .before in
+    let s = at .before .before .before .before .args .septets .now in
+    let last = c .before .odd-eight2 .ensures (c .if3 .left) in
+    (search needs, own-join s (at .loop .n) (length s) (at .loop .inv .1) (λ k l m. last k (omega arith) (omega (arith, c .before .before .loop-test .left))))
 
 pub own-septets-spec : {M : Type 1} → statement M
 own-septets-spec =
@@ -62,14 +65,14 @@ own-septets-spec =
     Inv-loop
     μ-loop
     returns
+    own-blocks-requires
     loop-holds
     sub-loop
-    add-odd-septets
-    odd-septets-requires
-    own-eights-requires
+    odd-eight-requires
     returns-2
     add-n
     loop-less
     loop-again
-    own-eights-requires-2
-    returns-3)
+    odd-eight-requires-2
+    returns-3
+    returns-4)

@@ -1,4 +1,4 @@
--- `tables::greek_entry` meets its contract: each arm by the printed table, the rest because the arms are all the listed units of the range.
+-- `codes::greek_entry` meets its contract: each arm by the printed table, the rest because the arms are all the listed units of the range.
 -- Assumes nothing.
 use mathlib.Core.Path.{sym, ap}
 use Prim.{Unit}
@@ -7,8 +7,8 @@ use Rattle.words.specs.Lists.{firstPlace}
 use Rattle.letters.specs.Tables.{mainTable, extension, among, beside}
 use Rattle.letters.specs.Writing.{listedIn, listedAs, entryFor, entryOf}
 use Rattle.letters.proofs.Entries.{none-listed}
-use Rattle.tables.proofs.greek_entry.Statement.{statement}
-use Rattle.tables.proofs.greek_entry.Tie as tie
+use Rattle.codes.proofs.greek_entry.Statement.{statement}
+use Rattle.codes.proofs.greek_entry.Tie as tie
 
 pub greek-entry-spec : {M : Type 1} → statement M
 unfolding entryOf listedIn among beside firstPlace mainTable extension

@@ -1,12 +1,12 @@
--- `tables::after_escape` meets its contract: each arm is what is printed for its code, and the rest is no code.
+-- `shown::after_escape` meets its contract: each arm is what is printed for its code, and the rest is no code.
 -- Assumes nothing.
 use mathlib.Core.Path.{sym, ap}
 use Rattle.words.specs.Lists.{firstPlace, numbersFrom}
 use Rattle.letters.specs.Tables.{mainTable, extension, among, beside}
 use Rattle.letters.specs.Reading.{unitIn, afterEscapeIn, mainUnit, afterEscape}
 use Rattle.letters.proofs.Entries.{rest-wide, escaped-wide}
-use Rattle.tables.proofs.after_escape.Statement.{statement}
-use Rattle.tables.proofs.after_escape.Tie as tie
+use Rattle.shown.proofs.after_escape.Statement.{statement}
+use Rattle.shown.proofs.after_escape.Tie as tie
 
 pub after-escape-spec : {M : Type 1} → statement M
 unfolding numbersFrom afterEscapeIn unitIn among beside firstPlace mainTable extension

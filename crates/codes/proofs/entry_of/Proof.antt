@@ -1,4 +1,4 @@
--- `tables::entry_of` meets its contract: within the ranges of the matches by these, outside them because no printed row lies there.
+-- `codes::entry_of` meets its contract: within the ranges of the matches by these, outside them because no printed row lies there.
 -- Assumes nothing.
 use mathlib.Core.Path.{sym, ap}
 use native.Mathlib.Omega.{arith}
@@ -7,8 +7,8 @@ use Rattle.words.specs.Lists.{firstPlace}
 use Rattle.letters.specs.Tables.{mainTable, extension, among, beside}
 use Rattle.letters.specs.Writing.{listedIn, listedAs, entryFor, entryOf}
 use Rattle.letters.proofs.Entries.{between-unlisted, above-unlisted}
-use Rattle.tables.proofs.entry_of.Statement.{statement}
-use Rattle.tables.proofs.entry_of.Tie as tie
+use Rattle.codes.proofs.entry_of.Statement.{statement}
+use Rattle.codes.proofs.entry_of.Tie as tie
 
 low-entry-requires : tie.Need-low-entry-requires
 low-entry-requires c κs = search needs

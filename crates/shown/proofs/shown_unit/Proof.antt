@@ -1,12 +1,12 @@
--- `tables::shown_unit` meets its contract: each arm is what is printed for its code, and the rest is no code.
+-- `shown::shown_unit` meets its contract: each arm is what is printed for its code, and the rest is no code.
 -- Assumes nothing.
 use mathlib.Core.Path.{sym, ap}
 use Rattle.words.specs.Lists.{firstPlace, numbersFrom}
 use Rattle.letters.specs.Tables.{mainTable, beside}
 use Rattle.letters.specs.Reading.{unitIn, mainUnit, shown}
 use Rattle.letters.proofs.Entries.{rest-wide, shown-wide}
-use Rattle.tables.proofs.shown_unit.Statement.{statement}
-use Rattle.tables.proofs.shown_unit.Tie as tie
+use Rattle.shown.proofs.shown_unit.Statement.{statement}
+use Rattle.shown.proofs.shown_unit.Tie as tie
 
 pub shown-unit-spec : {M : Type 1} → statement M
 unfolding numbersFrom shown unitIn beside firstPlace mainTable
