@@ -2,6 +2,10 @@
 -- Assumes nothing.
 use mathlib.Core.Path.{_∙_, sym}
 use Rattle.words.proofs.Unique.{OneAnswer}
+use Rattle.closing.proofs.adds_cr.Kinds as adds-cr-kinds
+use Rattle.closing.proofs.adds_cr.Reads as adds-cr
+use Rattle.closing.proofs.page_of.Kinds as page-of-kinds
+use Rattle.closing.proofs.page_of.Reads as page-of
 use Rattle.closing.proofs.length_count.Kinds as length-count-kinds
 use Rattle.closing.proofs.length_count.Reads as length-count
 use Rattle.closing.proofs.fits.Kinds as fits-kinds
@@ -17,3 +21,9 @@ fits-unique κs a x y u v p q = p ∙ sym q
 
 pub text-length-unique : OneAnswer text-length-kinds.ps text-length-kinds.r text-length.Post
 text-length-unique κs a x y u v p q = p ∙ sym q
+
+pub page-of-unique : OneAnswer page-of-kinds.ps page-of-kinds.r page-of.Post
+page-of-unique κs a x y u v p q = p ∙ sym q
+
+pub adds-cr-unique : OneAnswer adds-cr-kinds.ps adds-cr-kinds.r adds-cr.Post
+adds-cr-unique κs a x y u v p q = p ∙ sym q

@@ -1,13 +1,63 @@
-// What a service adds to the septets of a text and drops from them, and what fits it: decided by numbers and by the last septets alone.
+// What a service adds to the septets of a text and drops from them, and what fits it: the page, and what numbers and the last septets decide.
 ghost use mathlib.Core.Path.{_≡_};
-ghost use lib.ListN.{length};
+ghost use lib.ListN.{length, take};
 ghost use Rattle.words.specs.Closing.{withoutClosing};
+ghost use Rattle.stream.specs.Pages.{page};
 ghost use Rattle.stream.specs.SeptetCalls.{septetsFit, travels};
-ghost use Rattle.stream.specs.ArrayCalls.{keptCount};
+ghost use Rattle.stream.specs.UssdPacking.{addsCr};
+ghost use Rattle.stream.specs.Digits.{lowOf};
+ghost use Rattle.stream.specs.ArrayCalls.{addsUnder, keptCount};
 use groups::octets_for;
 use words::Service;
 
-// The length count that travels with so many septets.
+// The page of a text: 93 septets, all CR, and the text over the front. What is over 93 is left out.
+pub fn page_of(septets: &[u8]) -> [u8; 93]
+    ensures answer { λ r. ⌜ r ≡ page (take 93 (now (septets .entry))) ⌝ }
+{
+    let n = if septets.len() < 93 {
+        septets.len()
+    } else {
+        93
+    };
+    let mut page = [13u8; 93];
+    let mut i: usize = 0;
+    while i < n {
+        page[i] = septets[i];
+        i += 1;
+    }
+    page
+}
+
+// Whether the service adds a CR to the low seven bits of septets: USSD does where seven are left over whole groups of eight, or none are and a
+// CR is the last.
+pub fn adds_cr(service: Service, septets: &[u8]) -> bool
+    ensures answer { λ r. ⌜ r ≡ addsUnder service (lowOf 7 (now (septets .entry))) ⌝ }
+{
+    match service {
+        Service::ShortMessage => false,
+        Service::Broadcast => false,
+        Service::Ussd => ussd_adds(septets),
+        Service::OldPage => false,
+    }
+}
+
+fn ussd_adds(septets: &[u8]) -> bool
+    ensures { λ r. ⌜ r ≡ addsCr (lowOf 7 (now (septets .entry))) ⌝ }
+{
+    let n = septets.len();
+    let over = n % 8;
+    if over == 7 {
+        return true;
+    }
+    if 0 < n {
+        if over == 0 {
+            return septets[n - 1] & 0x7f == 13;
+        }
+    }
+    false
+}
+
+// The length count that travels with so many septets, or octets of UCS2.
 pub fn length_count(service: Service, n: usize) -> usize
     ensures answer { λ r. ⌜ r ≡ travels service n ⌝ }
 {

@@ -13,8 +13,8 @@ use Rattle.words.specs.declared.Service.{Service}
 use Rattle.words.specs.declared.Service.the-variants.{ShortMessage, Broadcast, Ussd}
 use Rattle.words.proofs.Tests.{both}
 use Rattle.coding.specs.declared.Reading.{Reading}
-use Rattle.coding.specs.declared.Alphabet.the-variants.{EightBit}
-use Rattle.coding.specs.declared.Class.the-variants.{Class1}
+use Rattle.fields.specs.declared.Alphabet.the-variants.{EightBit}
+use Rattle.fields.specs.declared.Class.the-variants.{Class1}
 use Rattle.coding.specs.declared.OctetRead.{OctetRead}
 use Rattle.coding.specs.declared.OctetRead.the-variants as octet-read
 use Rattle.coding.specs.declared.OctetWritten.{OctetWritten}

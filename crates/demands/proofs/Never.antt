@@ -21,7 +21,7 @@ use Rattle.words.proofs.Tests.{both, both-left, both-right, everyBelow, every-b
 use Rattle.words.proofs.Judging.{settle-given}
 use Rattle.coding.specs.declared.Reading.{Reading}
 use Rattle.coding.specs.Readings.{unmentioned, reservedReading}
-use Rattle.coding.specs.Numbers.{alphabetNo}
+use Rattle.fields.specs.Numbers.{alphabetNo}
 use Rattle.coding.specs.OctetRead.{classIn, discardIn, storeIn, generalReading, noticeReading, lastReading, readShort, octetRules}
 use Rattle.coding.specs.declared.OctetWritten.the-variants as octet-written
 use Rattle.coding.specs.OctetWritten.{smallest, octetWrites, writeRules as codingRules}

@@ -26,13 +26,14 @@ use Rattle.coding.specs.OctetRead.{octetRules, readUnder, octetReads}
 use Rattle.coding.specs.OctetWritten.{smallest, octetWrites, writeRules as codingRules}
 use Rattle.coding.specs.Holding.{isUcs2, textRules, holdsText}
 use Rattle.coding.proofs.Theorems.{settled}
+use Rattle.stream.specs.SeptetCalls.{travels}
 use Rattle.stream.specs.UnitCalls.{ucs2OctetsOf, unitCountOf, toOctetsRules, toOctetsAnswers, toOctetsLeaves, toUnitsAnswers, toUnitsLeaves, toUnitsRules}
 use Rattle.demands.specs.declared.MessageRead.the-variants as read
 use Rattle.demands.specs.declared.MessageWritten.{MessageWritten}
 use Rattle.demands.specs.declared.MessageWritten.the-variants as written
 use Rattle.demands.specs.MessageRead.{heldText, textLengthRules, textReads, textReadLeaves, textOfMessage, lengthRules, readRules, readAnswers, readLeaves}
 use Rattle.demands.specs.MessageWritten.{textOctets, textCount, textSizeRules, textWrites, textWriteLeaves, messageOctets, messageCount, sizeRules, writeRules, writeAnswers, writeLeaves}
-use Rattle.demands.specs.Inner.{heldReads, heldReadLeaves, shownAs, ucs2Count, unitsAs}
+use Rattle.demands.specs.Inner.{heldReads, heldReadLeaves, shownAs, unitsAs}
 
 -- ---- the verdict that an answer tells
 
@@ -119,7 +120,7 @@ shown-settle : (v : Verdict) (n : ℕ) (r : Reading) → shownAs r (settle v fil
 shown-settle (refused q) n r = refl
 shown-settle accepted n r = refl
 
-units-settle : (v : Verdict) (n : ℕ) (s : Service) (coding : ℕ) → unitsAs s coding (settle v filled.Refused (filled.Done n)) ≡ settle v written.Refused (written.Done n (ucs2Count s n) coding)
+units-settle : (v : Verdict) (n : ℕ) (s : Service) (coding : ℕ) → unitsAs s coding (settle v filled.Refused (filled.Done n)) ≡ settle v written.Refused (written.Done n (travels s n) coding)
 units-settle (refused q) n s coding = refl
 units-settle accepted n s coding = refl
 
@@ -202,7 +203,7 @@ module _ (service : Service) (r : Reading) (units out : List ℕ) where
 
 -- ---- writing a message: by what its reading holds
 
-units-count : (service : Service) (units : List ℕ) → unitCountOf service units ≡ ucs2Count service (length (ucs2OctetsOf service units))
+units-count : (service : Service) (units : List ℕ) → unitCountOf service units ≡ travels service (length (ucs2OctetsOf service units))
 units-count ShortMessage units = refl
 units-count Broadcast units = refl
 units-count Ussd units = refl

@@ -2,17 +2,16 @@
 -- Assumes nothing.
 --   heldReads, heldReadLeaves    == the reader behind the coding octet: 1, 2, 3, 4, 7
 --   shownAs r answer             == the answer of reading text, with the reading r
---   ucs2Count                    == the length count of so many octets of UCS2
 --   packedAs, unitsAs            == the answer of packing, with the coding octet, and of UCS2 with the length count too
 use Prim.Native.Nat.{ℕ}
 use mathlib.Core.List.{List, _++_}
 use lib.ListN.{length}
 use Rattle.words.specs.declared.Service.{Service}
-use Rattle.words.specs.declared.Service.the-variants.{ShortMessage, Broadcast, Ussd, OldPage}
 use Rattle.words.specs.declared.Filled.{Filled}
 use Rattle.words.specs.declared.Filled.the-variants as filled
 use Rattle.words.specs.Lists.{laid}
 use Rattle.words.specs.Judging.{verdict, settle}
+use Rattle.stream.specs.SeptetCalls.{travels}
 use Rattle.stream.specs.declared.Packed.{Packed}
 use Rattle.stream.specs.declared.Packed.the-variants as packed
 use Rattle.coding.specs.declared.Reading.{Reading}
@@ -40,13 +39,7 @@ abbrev pub packedAs : ℕ → Packed → MessageWritten
 packedAs coding (packed.Done octets count) = written.Done octets count coding
 packedAs coding (packed.Refused q) = written.Refused q
 
--- the count of UCS2 text, by its octets
-abbrev pub ucs2Count : Service → ℕ → ℕ
-ucs2Count ShortMessage octets = octets
-ucs2Count Broadcast octets = 0
-ucs2Count Ussd octets = 0
-ucs2Count OldPage octets = 0
-
+-- UCS2 is counted by its octets
 abbrev pub unitsAs : Service → ℕ → Filled → MessageWritten
-unitsAs service coding (filled.Done octets) = written.Done octets (ucs2Count service octets) coding
+unitsAs service coding (filled.Done octets) = written.Done octets (travels service octets) coding
 unitsAs service coding (filled.Refused q) = written.Refused q

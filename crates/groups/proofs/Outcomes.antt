@@ -8,6 +8,8 @@ use Rattle.groups.proofs.squeeze.Kinds as squeeze-kinds
 use Rattle.groups.proofs.squeeze.Reads as squeeze
 use Rattle.groups.proofs.stretch.Kinds as stretch-kinds
 use Rattle.groups.proofs.stretch.Reads as stretch
+use Rattle.groups.proofs.left_over.Kinds as left-over-kinds
+use Rattle.groups.proofs.left_over.Reads as left-over
 
 pub octets-for-unique : OneAnswer octets-for-kinds.ps octets-for-kinds.r octets-for.Post
 octets-for-unique κs a x y u v p q = p ∙ sym q
@@ -17,3 +19,6 @@ squeeze-unique κs a x y u v p q = p ∙ sym q
 
 pub stretch-unique : OneAnswer stretch-kinds.ps stretch-kinds.r stretch.Post
 stretch-unique κs a x y u v p q = p ∙ sym q
+
+pub left-over-unique : OneAnswer left-over-kinds.ps left-over-kinds.r left-over.Post
+left-over-unique κs a x y u v p q = p ∙ sym q

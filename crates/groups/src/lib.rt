@@ -1,7 +1,7 @@
 // Eight septets as one number of 64 bits: moved together they are seven octets, moved apart one lies in each octet.
 ghost use mathlib.Core.Path.{_≡_};
 ghost use Rattle.stream.specs.Stream.{octetsFor};
-ghost use Rattle.stream.specs.Groups.{together, apart};
+ghost use Rattle.stream.specs.Groups.{together, apart, leftOver};
 
 // How many octets n septets take. (7n could overflow.)
 pub fn octets_for(n: usize) -> usize
@@ -27,4 +27,13 @@ pub fn stretch(v: u64) -> u64
     let fours = (v & 0x0fffffff) | (((v >> 28) & 0x0fffffff) << 32);
     let pairs = (fours & 0x00003fff00003fff) | (((fours >> 14) & 0x00003fff00003fff) << 16);
     (pairs & 0x007f007f007f007f) | (((pairs >> 7) & 0x007f007f007f007f) << 8)
+}
+
+// The first septets of v that n septets leave over whole groups of eight, and a CR after them where cr says so.
+pub fn left_over(v: u64, n: usize, cr: bool) -> u64
+    ensures answer { λ r. ⌜ r ≡ leftOver v n cr ⌝ }
+{
+    let bits = 7 * (n % 8);
+    let rest = v & ((1 << bits) - 1);
+    if cr { rest | (13 << bits) } else { rest }
 }

@@ -23,7 +23,7 @@ pub fn pack(service: Service, septets: &[u8], out: &mut [u8]) -> Packed
         return Packed::Refused(Refusal::Unwritable);
     }
     let n = septets.len();
-    let high = words::first_wide(septets);
+    let high = wide::first_wide(septets);
     if high < n {
         return Packed::Refused(Refusal::NoSeptet { septet: high });
     }
@@ -32,10 +32,10 @@ pub fn pack(service: Service, septets: &[u8], out: &mut [u8]) -> Packed
     }
     let count = closing::length_count(service, n);
     if septets::is_page(service) {
-        let page = septets::page_of(septets, n);
+        let page = closing::page_of(septets);
         return counted(septets::send_page(page, out), count);
     }
-    let cr = septets::adds_under(service, septets, n);
+    let cr = closing::adds_cr(service, septets);
     counted(septets::send(septets, cr, out), count)
 }
 
@@ -54,11 +54,12 @@ pub fn pack_text(service: Service, septets: &[u8; 184], n: usize, out: &mut [u8]
         return Packed::Refused(Refusal::TooLong);
     }
     let count = closing::length_count(service, n);
+    let text = septets::front(septets, n);
+    let cr = closing::adds_cr(service, text);
     if septets::is_page(service) {
-        let page = septets::page_of(septets, n);
+        let page = closing::page_of(text);
         return counted(septets::send_page(page, out), count);
     }
-    let cr = septets::adds_under(service, septets, n);
     counted(septets::send_front(septets, n, cr, out), count)
 }
 
@@ -69,7 +70,7 @@ pub fn pack_page(page: [u8; 93], out: &mut [u8]) -> Filled
     ensures answer { λ r. ⌜ r ≡ pageAnswers page (length (now (out .entry))) ⌝ }
     ensures buffer { λ r. ⌜ now (out .exit) ≡ pageLeaves page (now (out .entry)) ⌝ }
 {
-    let high = words::first_wide(&page);
+    let high = wide::first_wide(&page);
     if high < 93 {
         return Filled::Refused(Refusal::NoSeptet { septet: high });
     }

@@ -1,22 +1,22 @@
-// The packings of septets: what a service adds after a text, and how much it drops on reading.
+// Texts and pages packed into the lent buffer, and all septets taken out of octets.
 ghost use mathlib.Core.Path.{_≡_};
-ghost use Prim.Native.Nat.{ℕ, _≤_, _<_};
+ghost use Prim.Native.Nat.{ℕ, _≤_};
 ghost use mathlib.Core.List.{List};
 ghost use mathlib.Core.Bool.{true};
-ghost use lib.ListN.{length, getD, take};
+ghost use lib.ListN.{length, take};
 ghost use Rattle.words.specs.Lists.{laid};
 ghost use Rattle.stream.specs.Stream.{octetsFor, packed, unpacked};
-ghost use Rattle.stream.specs.UssdPacking.{addsCr, withCr};
-ghost use Rattle.stream.specs.Pages.{page};
+ghost use Rattle.stream.specs.UssdPacking.{withCr};
 ghost use Rattle.stream.specs.SeptetCalls.{septetsFit};
-ghost use Rattle.stream.specs.Digits.{value, lowOf};
+ghost use Rattle.stream.specs.Digits.{lowOf};
 ghost use Rattle.stream.specs.ArrayCalls.{allAnswers, allLeaves, heldCount};
-ghost use Rattle.stream.specs.Inner.{givenAnswers, givenLeaves, isPage, addsUnder};
+ghost use Rattle.stream.specs.Inner.{givenAnswers, givenLeaves, isPage};
 use crate::pieces::low_eight;
 use crate::pieces::put_end;
 use crate::pieces::recut;
 use crate::pieces::take_end;
 use closing::fits;
+use groups::left_over;
 use groups::octets_for;
 use groups::squeeze;
 use groups::stretch;
@@ -36,48 +36,12 @@ pub(crate) fn is_page(service: Service) -> bool
     }
 }
 
-// Whether the service adds a CR to the low seven bits of the first n septets.
-pub(crate) fn adds_under(service: Service, septets: &[u8], n: usize) -> bool
+// The first n septets.
+pub(crate) fn front(septets: &[u8], n: usize) -> &[u8]
     requires { ⌜ n ≤ length (now septets) ⌝ }
-    ensures { λ r. ⌜ r ≡ addsUnder service (take n (lowOf 7 (now (septets .entry)))) ⌝ }
+    ensures { λ r. ⌜ now r ≡ take n (now (septets .entry)) ⌝ }
 {
-    match service {
-        Service::ShortMessage => false,
-        Service::Broadcast => false,
-        Service::Ussd => adds_cr(septets, n),
-        Service::OldPage => false,
-    }
-}
-
-// Whether USSD adds a CR to them.
-fn adds_cr(septets: &[u8], n: usize) -> bool
-    requires { ⌜ n ≤ length (now septets) ⌝ }
-    ensures { λ r. ⌜ r ≡ addsCr (take n (lowOf 7 (now (septets .entry)))) ⌝ }
-{
-    let over = n % 8;
-    if over == 7 {
-        return true;
-    }
-    if 0 < n {
-        if over == 0 {
-            return septets[n - 1] & 0x7f == 13;
-        }
-    }
-    false
-}
-
-// The page of a text: 93 septets, all CR, and the first n septets over the front.
-pub(crate) fn page_of(septets: &[u8], n: usize) -> [u8; 93]
-    requires { ⌜ (n ≤ length (now septets)) × (n ≤ 93) ⌝ }
-    ensures { λ r. ⌜ r ≡ page (take n (now (septets .entry))) ⌝ }
-{
-    let mut page = [13u8; 93];
-    let mut i: usize = 0;
-    while i < n {
-        page[i] = septets[i];
-        i += 1;
-    }
-    page
+    &septets[..n]
 }
 
 // Packs a page.
@@ -96,14 +60,6 @@ fn with_cr(n: usize, cr: bool) -> usize
     if cr { n + 1 } else { n }
 }
 
-// The number of n septets, with a CR above them where cr says so.
-fn cr_above(v: u64, n: usize, cr: bool) -> u64
-    requires { ⌜ n < 8 ⌝ }
-    ensures { λ r. ⌜ ((l : List ℕ) → ((k : ℕ) → getD l k 0 < 128) → length l ≡ n → v ≡ value 128 l → r ≡ value 128 (withCr cr l)) ⌝ }
-{
-    if cr { v | (13 << (7 * n)) } else { v }
-}
-
 // Packs the low seven bits of septets, with a CR after them where cr says so.
 pub(crate) fn send(septets: &[u8], cr: bool, out: &mut [u8]) -> Filled
     requires { ⌜ length (now septets) ≤ 183 ⌝ }
@@ -119,9 +75,8 @@ pub(crate) fn send(septets: &[u8], cr: bool, out: &mut [u8]) -> Filled
     recut(septets, 7, groups, out, 8);
     let done = 7 * groups;
     if done < octets {
-        let rest = n % 8;
-        let v = squeeze(take_end(septets, 8 * groups, rest));
-        let w = cr_above(v, rest, cr);
+        let v = squeeze(take_end(septets, 8 * groups, n % 8));
+        let w = left_over(v, n, cr);
         put_end(w, out, done, octets - done);
     }
     Filled::Done(octets)
@@ -141,9 +96,8 @@ pub(crate) fn send_front(septets: &[u8], n: usize, cr: bool, out: &mut [u8]) -> 
     recut(septets, 7, groups, out, 8);
     let done = 7 * groups;
     if done < octets {
-        let rest = n % 8;
-        let v = low_eight(septets, 8 * groups) & ((1 << (7 * rest)) - 1);
-        let w = cr_above(v, rest, cr);
+        let v = low_eight(septets, 8 * groups);
+        let w = left_over(v, n, cr);
         put_end(w, out, done, octets - done);
     }
     Filled::Done(octets)

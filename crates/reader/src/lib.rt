@@ -74,7 +74,7 @@ pub fn read_text(
     ensures buffer { λ r. ⌜ now (out .exit) ≡ textReadLeaves service ucs2 count (now (octets .entry)) (now (out .entry)) ⌝ }
 {
     if ucs2 {
-        return units::octets_to_units(service, octets, count, out);
+        return to_units::octets_to_units(service, octets, count, out);
     }
     read_septets(service, count, octets, out)
 }

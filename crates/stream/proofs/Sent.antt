@@ -4,6 +4,7 @@ use mathlib.Core.Path.{_≡_, refl, sym, ap, ap₂, _∙_, subst}
 use mathlib.Core.Bool.{Bool, true, false, false≢true}
 use mathlib.Core.List.{List, [], _∷_, _++_, append-nil, append-assoc, map}
 use Prim.Native.Nat.{ℕ, zero, suc, _+_, _-_, _*_, _/_, _%_, _^_, _≤_, _<_}
+use native.Mathlib.Nat.{mod-lt}
 use native.Mathlib.Omega.{arith}
 use lib.Dec.{leb, lit<, lit≤}
 use borrow.Author.Tests.{lt-leb}
@@ -23,8 +24,10 @@ use Rattle.stream.specs.Digits.{value, digits, lowOf}
 use Rattle.stream.specs.UssdPacking.{last, addsCr, withCr, closed, ussdOctets}
 use Rattle.stream.specs.Pages.{page, pageOctets}
 use Rattle.stream.specs.SeptetCalls.{octetsOf}
-use Rattle.stream.specs.Inner.{isPage, addsUnder}
-use Rattle.stream.proofs.Numbers.{pow-mul, digits-length, value-lt, value-append, value-one, recut-append}
+use Rattle.stream.specs.Groups.{leftOver}
+use Rattle.stream.specs.Inner.{isPage}
+use Rattle.stream.specs.ArrayCalls.{addsUnder}
+use Rattle.stream.proofs.Numbers.{pow-mul, digits-length, digits-below, digits-value, digits-front, digits-low, value-lt, value-digits, value-append, value-one, recut-append}
 use Rattle.stream.proofs.Stream.{packed-digits}
 use Rattle.stream.proofs.Ussd.{with-cr-below}
 
@@ -42,27 +45,17 @@ cr-after true s t = sym (append-assoc s t (13 ∷ []))
 cr-after false s t = refl
 
 -- the CR above septets, by a shift and an or
-pub cr-above : (l : List ℕ) → Below 128 l → length l < 8 → bitOr (value 128 l) (13 * 2 ^ (7 * length l) % 2 ^ 64) ≡ value 128 (withCr true l)
+cr-above : (l : List ℕ) → Below 128 l → length l < 8 → bitOr (value 128 l) (13 * 2 ^ (7 * length l) % 2 ^ 64) ≡ value 128 (withCr true l)
 cr-above l h few =
     ap (bitOr (value 128 l)) (shl-exact {a = 13} 4 (7 * length l) 64 (lit< tt) (omega arith))
     ∙ or-shifted-r 13 (7 * length l) (value 128 l) (subst (λ (k : ℕ). value 128 l < k) (sym (pow-mul 2 7 (length l))) (value-lt 128 l h))
     ∙ ap (λ (k : ℕ). 13 * k + value 128 l) (pow-mul 2 7 (length l))
     ∙ sym (value-append 128 l (13 ∷ []) ∙ ap (λ (k : ℕ). k * 128 ^ length l + value 128 l) (value-one 128 13))
 
--- ---- a mask that leaves the first k septets
-
-pub first-septets : (l : List ℕ) (k : ℕ) → Below 128 l → k ≤ length l → bitAnd (value 128 l) (2 ^ (7 * k) - 1) ≡ value 128 (take k l)
-first-septets l k h few =
-    let size : length (take k l) ≡ k = length-take-le k l few in
-    let e : value 128 l ≡ value 128 (drop k l) * 2 ^ (7 * k) + value 128 (take k l) =
-    ap (value 128) (sym (take-append-drop k l)) ∙ value-append 128 (take k l) (drop k l)
-    ∙ ap (λ (i : ℕ). value 128 (drop k l) * i + value 128 (take k l)) (ap (λ (i : ℕ). 128 ^ i) size ∙ sym (pow-mul 2 7 k)) in
-    let fits : value 128 (take k l) < 2 ^ (7 * k) =
-    subst (λ (i : ℕ). value 128 (take k l) < i) (ap (λ (i : ℕ). 128 ^ i) size ∙ sym (pow-mul 2 7 k)) (value-lt 128 (take k l) (below-take 128 l h k)) in
-    and-mask (value 128 l) (7 * k) ∙ ap (λ (x : ℕ). x % 2 ^ (7 * k)) e ∙ low (value 128 (drop k l)) (7 * k) fits
+-- ---- what whole groups of eight leave over
 
 -- the mask of so many bits
-pub ones : (k : ℕ) → k < 64 → 1 * 2 ^ k % 2 ^ 64 - 1 ≡ 2 ^ k - 1
+ones : (k : ℕ) → k < 64 → 1 * 2 ^ k % 2 ^ 64 - 1 ≡ 2 ^ k - 1
 ones k few =
     let e : 1 * 2 ^ k % 2 ^ 64 ≡ 1 * 2 ^ k = shl-exact {a = 1} 1 k 64 (lit< tt) (omega arith) in
     omega arith
@@ -71,6 +64,33 @@ pub ones-above-0 : (k : ℕ) → k < 64 → 1 ≤ 1 * 2 ^ k % 2 ^ 64
 ones-above-0 k few =
     let e : 1 * 2 ^ k % 2 ^ 64 ≡ 1 * 2 ^ k = shl-exact {a = 1} 1 k 64 (lit< tt) (omega arith) in
     omega (arith, pow-pos k)
+
+-- the septets left over, by a mask, and with the CR above them
+over : (v k : ℕ) → k ≤ 8 → value 128 (take k (digits 128 8 v)) ≡ v % 2 ^ (7 * k)
+over v k few =
+    let small : v % 128 ^ k < 128 ^ k = subst (λ (m : ℕ). v % m < m) (pow-mul 2 7 k) (mod-lt v (pow-pos (7 * k))) in
+    ap (value 128) (digits-front 128 8 k v few ∙ sym (digits-low 128 k v (lit< tt)))
+    ∙ value-digits 128 k (v % 128 ^ k) (lit< tt) small
+    ∙ ap (λ (m : ℕ). v % m) (sym (pow-mul 2 7 k))
+
+pub over-masked : (v n : ℕ) → bitAnd v (1 * 2 ^ (7 * (n % 8)) % 2 ^ 64 - 1) ≡ leftOver v n false
+unfolding leftOver
+over-masked v n = ap (bitAnd v) (ones (7 * (n % 8)) (omega arith)) ∙ and-mask v (7 * (n % 8)) ∙ sym (over v (n % 8) (omega arith))
+
+pub over-closed : (v n : ℕ) → bitOr (leftOver v n false) (13 * 2 ^ (7 * (n % 8)) % 2 ^ 64) ≡ leftOver v n true
+unfolding leftOver
+over-closed v n =
+    let l : List ℕ = take (n % 8) (digits 128 8 v) in
+    let size : length l ≡ n % 8 = length-take-le (n % 8) (digits 128 8 v) (omega (arith, digits-length 128 8 v)) in
+    ap (λ (k : ℕ). bitOr (value 128 l) (13 * 2 ^ (7 * k) % 2 ^ 64)) (sym size)
+    ∙ cr-above l (below-take 128 (digits 128 8 v) (digits-below 128 8 v (lit< tt)) (n % 8)) (omega arith)
+
+-- of the number of up to eight septets
+pub over-few : (l : List ℕ) (n : ℕ) (cr : Bool) → Below 128 l → n % 8 ≤ length l → leftOver (value 128 l) n cr ≡ value 128 (withCr cr (take (n % 8) l))
+unfolding leftOver
+over-few l n cr h few =
+    ap (λ (s : List ℕ). value 128 (withCr cr s))
+    (digits-front 128 8 (n % 8) (value 128 l) (omega arith) ∙ sym (digits-front 128 (length l) (n % 8) (value 128 l) few) ∙ ap (take (n % 8)) (digits-value 128 l h))
 
 -- ---- the front of a list
 

@@ -1,7 +1,7 @@
 -- Packing from an array of septets and from a page, and unpacking with what closes the text left in: the whole writer and the whole reader keep
 -- a text's septets in an array of their own, longer than any text.
--- Own rule: of an array's septet the low seven bits are packed. Cited by packing::pack_text, packing::pack_page, packing::unpack_all and
--- closing::text_length. Assumes nothing.
+-- Own rule: of an array's septet the low seven bits are packed. Cited by packing::pack_text, packing::pack_page, packing::unpack_all,
+-- closing::adds_cr and closing::text_length. Assumes nothing.
 --   lowBits s                  == the low seven bits of each of s
 --   arrayRules service s n room == what refuses to pack the first n septets of the array s into a buffer of that room
 --   arrayAnswers, arrayLeaves  == what pack_text answers, and what it leaves in the buffer
@@ -10,6 +10,7 @@
 --   heldCount service octets count == how many septets so many octets hold
 --   allSeptets service count o == all septets that the octets o hold, the closing ones that unpack drops too
 --   allRules, allAnswers, allLeaves == what unpack_all refuses, answers and leaves in the buffer
+--   addsUnder service s        == whether the service adds a CR to the septets s
 --   closesGroups s             == whether s is whole groups of eight and ends in CR
 --   keptCount service s        == how many of all septets s that octets hold are left of a text
 use Prim.Native.Nat.{ℕ, _-_, _%_}
@@ -28,7 +29,7 @@ use Rattle.words.specs.Closing.{withoutClosing}
 use Rattle.words.specs.Judging.{Rule, when, verdict, settle, serviceRules}
 use Rattle.stream.specs.Stream.{packed, unpacked}
 use Rattle.stream.specs.Digits.{lowOf}
-use Rattle.stream.specs.UssdPacking.{cr, septetsIn, last}
+use Rattle.stream.specs.UssdPacking.{cr, septetsIn, last, addsCr}
 use Rattle.stream.specs.SeptetCalls.{octetsOf, travels, septetsFit}
 use Rattle.stream.specs.declared.Packed.{Packed}
 use Rattle.stream.specs.declared.Packed.the-variants as done
@@ -89,6 +90,12 @@ allAnswers service o count room =
 unfoldable pub allLeaves : Service → List ℕ → ℕ → List ℕ → List ℕ
 allLeaves service o count out =
     settle (verdict (allRules service o count (length out))) (λ r. out) (laid (allSeptets service count o) out)
+
+abbrev pub addsUnder : Service → List ℕ → Bool
+addsUnder ShortMessage s = false
+addsUnder Broadcast s = false
+addsUnder Ussd s = addsCr s
+addsUnder OldPage s = false
 
 -- whole groups of eight septets are whole groups of seven octets
 unfoldable pub closesGroups : List ℕ → Bool

@@ -1,9 +1,8 @@
 -- What private functions of the packings say of themselves: no contract of a public call cites this file.
--- The last of all refusals, 7, by itself, what a service adds to a text, and the count that goes with a packing.
+-- The last of all refusals, 7, by itself, and the count that goes with a packing.
 -- Own rule: none. Cited by the functions that store into a lent buffer, and by those that count. Assumes nothing.
 --   countedAs a n         == the answer a of a packing, with the length count n
 --   isPage service        == whether a text is laid over a page under the service
---   addsUnder service s   == whether the service adds a CR to the septets s
 --   givenAnswers xs room, givenLeaves xs out == what storing xs answers, and leaves in the buffer, where only 7 can refuse
 use Prim.Native.Nat.{ℕ}
 use mathlib.Core.Bool.{Bool, true, false}
@@ -17,7 +16,6 @@ use Rattle.words.specs.declared.Filled.the-variants.{Done, Refused}
 use Rattle.words.specs.declared.Refusal.the-variants.{NoRoom}
 use Rattle.words.specs.Lists.{laid}
 use Rattle.words.specs.Judging.{Rule, when, verdict, settle}
-use Rattle.stream.specs.UssdPacking.{addsCr}
 use Rattle.stream.specs.declared.Packed.{Packed}
 use Rattle.stream.specs.declared.Packed.the-variants as packed
 
@@ -31,13 +29,6 @@ isPage ShortMessage = false
 isPage Broadcast = true
 isPage Ussd = false
 isPage OldPage = false
-
--- the service adds a CR to the septets s
-abbrev pub addsUnder : Service → List ℕ → Bool
-addsUnder ShortMessage s = false
-addsUnder Broadcast s = false
-addsUnder Ussd s = addsCr s
-addsUnder OldPage s = false
 
 abbrev pub givenRules : List ℕ → ℕ → List Rule
 givenRules xs room = when (ltb room (length xs)) NoRoom ∷ []

@@ -1,6 +1,6 @@
 -- Document 01, "Packing": UCS2 is two octets a unit, high octet first.
 -- Own rule: a UCS2 broadcast page is filled up with 000D, and reading drops closing 000D units; no other service fills or drops.
--- Cited by units::units_to_octets and units::octets_to_units. Assumes nothing.
+-- Cited by from_units::units_to_octets and to_units::octets_to_units. Assumes nothing.
 --   unitOctets us   == the octets of the units us
 --   octetUnits o    == the units that the octets o hold; an odd octet at the end is none
 --   unitPage us     == the 41 units of a broadcast page with the text us

@@ -1,6 +1,6 @@
 -- Document 01, "Packing" and "Refusal numbers and their order": UCS2 units to octets (8 of an old page, 5, 7) and back (4, 7).
 -- Own rule: an old page holds no UCS2, so that any octets under it are 4. The count of a short message is its octets.
--- Cited by units::units_to_octets and units::octets_to_units. Assumes nothing.
+-- Cited by from_units::units_to_octets and to_units::octets_to_units. Assumes nothing.
 --   ucs2OctetsOf service us        == the octets of the units us
 --   toOctetsRules, toOctetsAnswers, toOctetsLeaves == what units_to_octets refuses, answers and leaves in the buffer
 --   unitCountOf service us         == the length count that travels with them

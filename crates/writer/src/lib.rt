@@ -5,7 +5,7 @@ ghost use lib.ListN.{length};
 ghost use Rattle.words.specs.Sizes.{isOldPage};
 ghost use Rattle.coding.specs.Readings.{plainIn};
 ghost use Rattle.demands.specs.MessageWritten.{textWrites, textWriteLeaves, writeAnswers, writeLeaves};
-ghost use Rattle.demands.specs.Inner.{packedAs, ucs2Count, unitsAs};
+ghost use Rattle.demands.specs.Inner.{packedAs, unitsAs};
 ghost use Rattle.writer.specs.Settled.{heldSettled, settledAs, settledWrites, settledLeaves};
 use coding::Held;
 use coding::OctetWritten;
@@ -116,35 +116,23 @@ fn write_text(coding: TextCoding, units: &[u16], out: &mut [u8]) -> MessageWritt
         return counted(
             service,
             coding.octet,
-            units::units_to_octets(service, units, out),
+            from_units::units_to_octets(service, units, out),
         );
     }
     write_septets(service, coding.octet, units, out)
 }
 
-// The answer of writing UCS2, with its count and the coding octet.
+// The answer of writing UCS2, counted by its octets, with the coding octet.
 fn counted(service: Service, octet: u8, answer: Filled) -> MessageWritten
     ensures { λ r. ⌜ r ≡ unitsAs service octet answer ⌝ }
 {
     match answer {
         Filled::Done(stored) => MessageWritten::Done {
             octets: stored,
-            count: ucs2_count(service, stored),
+            count: closing::length_count(service, stored),
             coding: octet,
         },
         Filled::Refused(refusal) => MessageWritten::Refused(refusal),
-    }
-}
-
-// The length count of UCS2 text: the octets of a short message.
-fn ucs2_count(service: Service, octets: usize) -> usize
-    ensures { λ r. ⌜ r ≡ ucs2Count service octets ⌝ }
-{
-    match service {
-        Service::ShortMessage => octets,
-        Service::Broadcast => 0,
-        Service::Ussd => 0,
-        Service::OldPage => 0,
     }
 }
 

@@ -7,7 +7,7 @@ use native.Mathlib.Omega.{arith}
 use borrow.Author.Tests.{lt-ltb, le-ltb}
 use lib.Dec.{leb}
 use lib.ListN.{length, take}
-use lib.Seq.{take-length}
+use lib.Seq.{take-all}
 use Rattle.words.specs.declared.Refusal.the-variants.{NoSeptet}
 use Rattle.words.specs.declared.Filled.{Filled}
 use Rattle.words.specs.Sizes.{mostSeptets, isOldPage}
@@ -20,7 +20,8 @@ use Rattle.stream.specs.Digits.{lowOf}
 use Rattle.stream.specs.UssdPacking.{withCr}
 use Rattle.stream.specs.Pages.{page}
 use Rattle.stream.specs.SeptetCalls.{octetsOf, countOf, packRules, packAnswers, packLeaves}
-use Rattle.stream.specs.Inner.{countedAs, addsUnder}
+use Rattle.stream.specs.Inner.{countedAs}
+use Rattle.stream.specs.ArrayCalls.{addsUnder}
 use Rattle.stream.proofs.Given.{Gives}
 use Rattle.stream.proofs.Calls.{none-high, pack-passed}
 use Rattle.stream.proofs.LowBits.{low-same}
@@ -93,11 +94,7 @@ done c {stored} {left} same gives =
     (subst (λ (l : List ℕ). Gives l (a .out .now) stored left) same gives)
 
 page-of-requires : tie.Need-page-of-requires
-page-of-requires c κs =
-    let asked = c .before in
-    let judged = asked .before .before in
-    let a = judged .before .before .before .before .before .before .before .before .args in
-    (search needs, omega (arith, most judged, page-most (a .service) (sym (asked .is-page .ensures) ∙ c .if4 .taken)))
+page-of-requires c κs = search needs
 
 send-page-requires : tie.Need-send-page-requires
 send-page-requires c κs = search needs
@@ -118,7 +115,7 @@ returns-4 c =
     let judged = count .before in
     let a = judged .before .before .before .before .before .before .before .before .args in
     let s : List ℕ = a .septets .now in
-    let whole : take (length s) s ≡ s = take-length s in
+    let whole : take 93 s ≡ s = take-all 93 s (omega (arith, most judged, page-most (a .service) (sym (asked .is-page .ensures) ∙ then .if4 .taken))) in
     let same : packed (lowOf 7 (paged .page-of .result)) ≡ octetsOf (a .service) s =
     ap (λ (l : List ℕ). packed (lowOf 7 l)) (paged .page-of .ensures ∙ ap page whole)
     ∙ ap packed (low-same 7 (page s) (page-below s (below (judged .before .before))))
@@ -126,8 +123,8 @@ returns-4 c =
     let p = done judged same (sent .send-page .ensures) in
     (c .counted .ensures ∙ ap (countedAs (sent .send-page .result)) (count .length-count .ensures) ∙ p .0, p .1)
 
-adds-under-requires : tie.Need-adds-under-requires
-adds-under-requires c κs = search needs
+adds-cr-requires : tie.Need-adds-cr-requires
+adds-cr-requires c κs = search needs
 
 send-requires : tie.Need-send-requires
 send-requires c κs =
@@ -150,9 +147,9 @@ returns-5 c =
     let judged = count .before in
     let a = judged .before .before .before .before .before .before .before .before .args in
     let s : List ℕ = a .septets .now in
-    let whole : take (length s) (lowOf 7 s) ≡ s = ap (take (length s)) (low-same 7 s (below (judged .before .before))) ∙ take-length s in
-    let same : packed (withCr (added .adds-under .result) (lowOf 7 s)) ≡ octetsOf (a .service) s =
-    ap₂ (λ (b : Bool) (l : List ℕ). packed (withCr b l)) (added .adds-under .ensures ∙ ap (addsUnder (a .service)) whole) (low-same 7 s (below (judged .before .before)))
+    let plain : lowOf 7 s ≡ s = low-same 7 s (below (judged .before .before)) in
+    let same : packed (withCr (added .adds-cr .result) (lowOf 7 s)) ≡ octetsOf (a .service) s =
+    ap₂ (λ (b : Bool) (l : List ℕ). packed (withCr b l)) (added .adds-cr .ensures ∙ ap (addsUnder (a .service)) plain) plain
     ∙ closed-octets (a .service) s (sym (asked .is-page .ensures) ∙ else .if4 .left) (new (judged .before .before .before .before)) in
     let p = done judged same (sent .send .ensures) in
     (c .counted2 .ensures ∙ ap (countedAs (sent .send .result)) (count .length-count .ensures) ∙ p .0, p .1)
@@ -174,7 +171,7 @@ pack-spec =
     counted-requires
     same-length
     returns-4
-    adds-under-requires
+    adds-cr-requires
     send-requires
     counted-requires-2
     same-length-2

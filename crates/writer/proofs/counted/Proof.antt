@@ -6,14 +6,14 @@ use Rattle.writer.proofs.counted.Tie as tie
 enum-known-answer : tie.Need-enum-known-answer
 enum-known-answer c = search needs
 
-ucs2-count-requires : tie.Need-ucs2-count-requires
-ucs2-count-requires c κs = search needs
+length-count-requires : tie.Need-length-count-requires
+length-count-requires c κs = search needs
 
 enum-known-answer-2 : tie.Need-enum-known-answer-2
 enum-known-answer-2 c = search needs
 
 returns : tie.Need-returns
-returns c = simp (c .ucs2-count .ensures, c .before .before .answer .given .1)
+returns c = simp (c .length-count .ensures, c .before .before .answer .given .1)
 
 returns-2 : tie.Need-returns-2
 returns-2 c = simp (c .before .answer2 .given .1)
@@ -21,4 +21,4 @@ returns-2 c = simp (c .before .answer2 .given .1)
 pub counted-spec : {M : Type 1} → statement M
 counted-spec =
     tie.close
-    (tie.spec enum-known-answer ucs2-count-requires enum-known-answer-2 returns returns-2)
+    (tie.spec enum-known-answer length-count-requires enum-known-answer-2 returns returns-2)

@@ -8,12 +8,12 @@ use lib.Seq.{take-all}
 use Rattle.words.proofs.Below.{Below, below-drop}
 use Rattle.stream.specs.Stream.{octetsFor, packed}
 use Rattle.stream.specs.Digits.{value, digits, lowOf}
-use Rattle.stream.specs.Groups.{together}
+use Rattle.stream.specs.Groups.{together, leftOver}
 use Rattle.stream.specs.UssdPacking.{withCr}
 use Rattle.stream.proofs.Stream.{packed-length}
 use Rattle.stream.proofs.LowBits.{low-below, low-drop, together-few}
 use Rattle.stream.proofs.Given.{given-short, given-done}
-use Rattle.stream.proofs.Sent.{cr-length, sent-count, sent-whole, sent-end}
+use Rattle.stream.proofs.Sent.{cr-length, sent-count, sent-whole, sent-end, over-few}
 use borrow.Author.Needs.{needs}
 use Rattle.packing.proofs.septets.send.Statement.{statement}
 use Rattle.packing.proofs.septets.send.Tie as tie
@@ -70,8 +70,8 @@ take-end-requires c κs = omega arith
 squeeze-requires : tie.Need-squeeze-requires
 squeeze-requires c κs = search needs
 
-cr-above-requires : tie.Need-cr-above-requires
-cr-above-requires c κs = omega arith
+left-over-requires : tie.Need-left-over-requires
+left-over-requires c κs = search needs
 
 sub-put-end : tie.Need-sub-put-end
 sub-put-end c = search needs
@@ -107,10 +107,12 @@ returns-2 c =
     ∙ ap (value 128) (sym (low-drop 7 (8 * g) s)) in
     let xs : List ℕ = packed (withCr (start .args .cr) (text start)) in
     let size-left : length (drop (8 * g) (text start)) ≡ count start % 8 = omega (arith, length-drop (8 * g) (text start), size start) in
-    let w = above .cr-above .ensures (drop (8 * g) (text start)) (below-drop 128 (text start) (below start) (8 * g)) size-left v in
+    let left : List ℕ = drop (8 * g) (text start) in
+    let w = above .left-over .ensures ∙ ap (λ (x : ℕ). leftOver x (count start) (start .args .cr)) v ∙ over-few left (count start) (start .args .cr) (below-drop 128 (text start) (below start) (8 * g)) (omega (arith, size-left))
+    ∙ ap (λ (l : List ℕ). value 128 (withCr (start .args .cr) l)) (take-all (count start % 8) left (omega (arith, size-left))) in
     given-done xs d (octets counted ∙ sym (packed-length (withCr (start .args .cr) (text start)))) (omega (arith, packed-length (withCr (start .args .cr) (text start)), octets counted, judged .if1 .left))
     (sent-end (text start) (below start) (start .args .cr) (count start) (size start) d (cut .recut .last .1 .1 .1 .0) (cut .recut .ensures) _ _ w
-    (put .put-end .ensures ∙ ap (λ (k : ℕ). take (7 * g) (cut .recut .last .1 .1 .1 .0) ++ digits 256 (k - 7 * g) (above .cr-above .result) ++ drop (7 * g + (k - 7 * g)) (cut .recut .last .1 .1 .1 .0)) (octets counted)))
+    (put .put-end .ensures ∙ ap (λ (k : ℕ). take (7 * g) (cut .recut .last .1 .1 .1 .0) ++ digits 256 (k - 7 * g) (above .left-over .result) ++ drop (7 * g + (k - 7 * g)) (cut .recut .last .1 .1 .1 .0)) (octets counted)))
 
 same-length-2 : tie.Need-same-length-2
 same-length-2 c = search needs
@@ -140,7 +142,7 @@ send-spec =
     mul-take-end
     take-end-requires
     squeeze-requires
-    cr-above-requires
+    left-over-requires
     sub-put-end
     put-end-requires
     same-length

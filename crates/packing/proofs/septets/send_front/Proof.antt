@@ -3,18 +3,18 @@ use Prim.Native.Nat.{ℕ, _+_, _-_, _*_, _/_, _%_, _^_, _≤_, _<_}
 use mathlib.Core.Path.{_≡_, refl, sym, ap, _∙_}
 use mathlib.Core.List.{List, _++_}
 use native.Mathlib.Omega.{arith}
-use lib.Bits.{bitAnd}
 use lib.ListN.{length, take, drop, length-map, length-drop}
 use lib.Seq.{take-take, length-take-le}
 use Rattle.words.specs.Lists.{laid}
 use Rattle.words.proofs.Below.{Below, below-take, below-drop}
 use Rattle.stream.specs.Stream.{octetsFor, packed}
 use Rattle.stream.specs.Digits.{value, digits, lowOf}
+use Rattle.stream.specs.Groups.{leftOver}
 use Rattle.stream.specs.UssdPacking.{withCr}
 use Rattle.stream.proofs.Stream.{packed-length}
 use Rattle.stream.proofs.LowBits.{low-below}
 use Rattle.stream.proofs.Given.{given-short, given-done}
-use Rattle.stream.proofs.Sent.{cr-length, sent-count, sent-whole, sent-end, first-septets, ones, ones-above-0, front-rest}
+use Rattle.stream.proofs.Sent.{cr-length, sent-count, sent-whole, sent-end, over-few, front-rest}
 use borrow.Author.Needs.{needs}
 use Rattle.packing.proofs.septets.send_front.Statement.{statement}
 use Rattle.packing.proofs.septets.send_front.Tie as tie
@@ -70,17 +70,8 @@ low-eight-requires c κs =
     let count-of = c .before .before .before .before .before .before in
     omega (arith, within count-of, octets count-of, c .if2 .taken)
 
-mul-v : tie.Need-mul-v
-mul-v c = search needs
-
-shl-v : tie.Need-shl-v
-shl-v c = search needs
-
-sub-v : tie.Need-sub-v
-sub-v c = ones-above-0 _ (omega arith)
-
-cr-above-requires : tie.Need-cr-above-requires
-cr-above-requires c κs = omega arith
+left-over-requires : tie.Need-left-over-requires
+left-over-requires c κs = search needs
 
 sub-put-end : tie.Need-sub-put-end
 sub-put-end c = search needs
@@ -113,17 +104,14 @@ returns-2 c =
     let left : take (start .args .n % 8) eight ≡ drop (8 * g) (text start) =
     take-take (start .args .n % 8) 8 (drop (8 * g) u) (omega arith)
     ∙ sym (front-rest (start .args .n) (8 * g) u (omega arith) (omega arith) ∙ ap (λ (k : ℕ). take k (drop (8 * g) u)) rest) in
-    let v =
-    ap (λ (x : ℕ). bitAnd x (1 * 2 ^ (7 * (start .args .n % 8)) % 2 ^ 64 - 1)) (loaded .low-eight .ensures)
-    ∙ ap (bitAnd (value 128 eight)) (ones (7 * (start .args .n % 8)) (omega arith))
-    ∙ first-septets eight (start .args .n % 8) (below-take 128 (drop (8 * g) u) (below-drop 128 u (low-below 7 (start .args .septets .now)) (8 * g)) 8) (omega arith)
-    ∙ ap (value 128) left in
     let xs : List ℕ = packed (withCr (start .args .cr) (text start)) in
     let size-left : length (drop (8 * g) (text start)) ≡ count start % 8 = omega (arith, length-drop (8 * g) (text start), size start) in
-    let w = above .cr-above .ensures (drop (8 * g) (text start)) (below-drop 128 (text start) (below start) (8 * g)) size-left v in
+    let w = above .left-over .ensures ∙ ap (λ (x : ℕ). leftOver x (count start) (start .args .cr)) (loaded .low-eight .ensures)
+    ∙ over-few eight (count start) (start .args .cr) (below-take 128 (drop (8 * g) u) (below-drop 128 u (low-below 7 (start .args .septets .now)) (8 * g)) 8) (omega (arith, long))
+    ∙ ap (λ (l : List ℕ). value 128 (withCr (start .args .cr) l)) left in
     given-done xs d (octets counted ∙ sym (packed-length (withCr (start .args .cr) (text start)))) (omega (arith, packed-length (withCr (start .args .cr) (text start)), octets counted, judged .if1 .left))
     (sent-end (text start) (below start) (start .args .cr) (count start) (size start) d (cut .recut .last .1 .1 .1 .0) (cut .recut .ensures ∙ ap (λ (l : List ℕ). laid (digits 256 (7 * g) (value 128 l)) d) (sym (take-take (8 * g) (start .args .n) u (omega arith)))) _ _ w
-    (put .put-end .ensures ∙ ap (λ (k : ℕ). take (7 * g) (cut .recut .last .1 .1 .1 .0) ++ digits 256 (k - 7 * g) (above .cr-above .result) ++ drop (7 * g + (k - 7 * g)) (cut .recut .last .1 .1 .1 .0)) (octets counted)))
+    (put .put-end .ensures ∙ ap (λ (k : ℕ). take (7 * g) (cut .recut .last .1 .1 .1 .0) ++ digits 256 (k - 7 * g) (above .left-over .result) ++ drop (7 * g + (k - 7 * g)) (cut .recut .last .1 .1 .1 .0)) (octets counted)))
 
 same-length-2 : tie.Need-same-length-2
 same-length-2 c = search needs
@@ -153,10 +141,7 @@ send-front-spec =
     mul-done
     mul-low-eight
     low-eight-requires
-    mul-v
-    shl-v
-    sub-v
-    cr-above-requires
+    left-over-requires
     sub-put-end
     put-end-requires
     same-length

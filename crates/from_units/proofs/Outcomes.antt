@@ -1,0 +1,13 @@
+-- Any two outcomes that the contract of a public call of this crate allows coincide: each contract is an equation for the answer and one for the buffer.
+-- Assumes nothing.
+use mathlib.Core.Path.{_∙_, sym}
+use denote.Ref.{now}
+use Rattle.words.proofs.Unique.{OneAnswer, OneBuffer}
+use Rattle.from_units.proofs.units_to_octets.Kinds as to-octets-kinds
+use Rattle.from_units.proofs.units_to_octets.Reads as to-octets
+
+pub units-to-octets-unique : OneAnswer to-octets-kinds.ps to-octets-kinds.r to-octets.Post
+units-to-octets-unique κs a x y u v p q = p .0 ∙ sym (q .0)
+
+pub units-to-octets-buffer-unique : OneBuffer to-octets-kinds.ps to-octets-kinds.r (λ κs u. now (u .1 .1 .0)) to-octets.Post
+units-to-octets-buffer-unique κs a x y u v p q = p .1 ∙ sym (q .1)

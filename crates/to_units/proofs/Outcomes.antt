@@ -1,0 +1,13 @@
+-- Any two outcomes that the contract of a public call of this crate allows coincide: each contract is an equation for the answer and one for the buffer.
+-- Assumes nothing.
+use mathlib.Core.Path.{_∙_, sym}
+use denote.Ref.{now}
+use Rattle.words.proofs.Unique.{OneAnswer, OneBuffer}
+use Rattle.to_units.proofs.octets_to_units.Kinds as to-units-kinds
+use Rattle.to_units.proofs.octets_to_units.Reads as to-units
+
+pub octets-to-units-unique : OneAnswer to-units-kinds.ps to-units-kinds.r to-units.Post
+octets-to-units-unique κs a x y u v p q = p .0 ∙ sym (q .0)
+
+pub octets-to-units-buffer-unique : OneBuffer to-units-kinds.ps to-units-kinds.r (λ κs u. now (u .1 .1 .1 .0)) to-units.Post
+octets-to-units-buffer-unique κs a x y u v p q = p .1 ∙ sym (q .1)
