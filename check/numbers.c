@@ -2,8 +2,9 @@
  * numbers.c: every number that can cross include/wikuay.h in the place of a service or of a field of a reading.
  *
  * The vectors name services and fields by words, so that they cannot ask what a number does that names nothing. Here
- * every service number of a wide range, and every number of every field, is handed to every call that takes one. It
- * prints how many answers were judged and how many are wrong; the exit status is 1 if one is. C99 and C++11.
+ * every service number of a wide range, and every number of every field, is handed to every call that takes one. The
+ * version of the library must be that of the header. It prints how many answers were judged and how many are wrong;
+ * the exit status is 1 if one is. C99 and C++11.
  */
 #include <stdio.h>
 #include <string.h>
@@ -90,6 +91,7 @@ int main(void) {
   unsigned long number;
   uint32_t service;
   wikuay_reading r;
+  judge(wikuay_version() == WIKUAY_VERSION_NUMBER, "version", wikuay_version());
   for (number = 4; number < 5000; number++) no_service((uint32_t)number);
   for (number = 12; number < 32; number++) no_service((uint32_t)1 << number);
   no_service(UINT32_MAX);

@@ -206,6 +206,9 @@ typedef struct {
   wikuay_reading reading; /* of wikuay_read_coding and wikuay_read_message, else WIKUAY_PLAIN */
 } wikuay_read_answer;
 
+/* The version of the library that is linked, as WIKUAY_VERSION_NUMBER has that of the header. Refuses nothing. */
+uint32_t wikuay_version(void);
+
 /*
  * Reads a data coding octet. Clauses 4 and 5.
  * Refuses: 8 unknown service, 2 an old page whose bits 3..0 are not 0.

@@ -28,11 +28,12 @@ use Rattle.demands.specs.declared.MessageWritten.the-variants as written
 use Rattle.demands.specs.MessageWritten.{textSizeRules, notCodable, overSize, sizeRules, writeRules, writeAnswers}
 use Rattle.demands.specs.Reports.{writeCount}
 use Rattle.names.specs.declared.ReadingNumbers.{ReadingNumbers}
-use Rattle.names.specs.declared.NamedService.{NamedService}
-use Rattle.names.specs.declared.NamedService.the-variants as service
+use Rattle.words.specs.declared.NamedService.{NamedService}
+use Rattle.words.specs.declared.NamedService.the-variants as service
 use Rattle.names.specs.declared.NamedReading.{NamedReading}
 use Rattle.names.specs.declared.NamedReading.the-variants as reading
-use Rattle.names.specs.Names.{namedService, namedReading, underService, underReading}
+use Rattle.words.specs.Services.{namedService, underService}
+use Rattle.names.specs.Names.{namedReading, underReading}
 use Rattle.answers.specs.Answers.{refusedAnswer, messageWrittenAnswer}
 use Rattle.wikuay.specs.Calls.{writeMessageGives}
 

@@ -3,6 +3,8 @@
 use mathlib.Core.Path.{_∙_, sym}
 use denote.Ref.{now}
 use Rattle.words.proofs.Unique.{OneAnswer, OneBuffer}
+use Rattle.wikuay.proofs.wikuay_version.Kinds as version-kinds
+use Rattle.wikuay.proofs.wikuay_version.Reads as version
 use Rattle.wikuay.proofs.wikuay_read_coding.Kinds as read-coding-kinds
 use Rattle.wikuay.proofs.wikuay_read_coding.Reads as read-coding
 use Rattle.wikuay.proofs.wikuay_write_coding.Kinds as write-coding-kinds
@@ -21,6 +23,9 @@ use Rattle.wikuay.proofs.wikuay_read_message.Kinds as read-message-kind
 use Rattle.wikuay.proofs.wikuay_read_message.Reads as read-message
 use Rattle.wikuay.proofs.wikuay_write_message.Kinds as write-message-kinds
 use Rattle.wikuay.proofs.wikuay_write_message.Reads as write-message
+
+pub wikuay-version-unique : OneAnswer version-kinds.ps version-kinds.r version.Post
+wikuay-version-unique κs a x y u v p q = p ∙ sym q
 
 pub wikuay-read-coding-unique : OneAnswer read-coding-kinds.ps read-coding-kinds.r read-coding.Post
 wikuay-read-coding-unique κs a x y u v p q = p ∙ sym q

@@ -29,11 +29,12 @@ use Rattle.demands.specs.MessageWritten.{textSizeRules, writeRules, writeAnswer
 use Rattle.answers.specs.declared.Answer.{Answer}
 use Rattle.answers.specs.declared.ReadAnswer.{ReadAnswer}
 use Rattle.names.specs.declared.ReadingNumbers.{ReadingNumbers}
-use Rattle.names.specs.declared.NamedService.{NamedService}
-use Rattle.names.specs.declared.NamedService.the-variants as service
+use Rattle.words.specs.declared.NamedService.{NamedService}
+use Rattle.words.specs.declared.NamedService.the-variants as service
 use Rattle.names.specs.declared.NamedReading.{NamedReading}
 use Rattle.names.specs.declared.NamedReading.the-variants as reading
-use Rattle.names.specs.Names.{namedService, namedReading, underService, underReading}
+use Rattle.words.specs.Services.{namedService, underService}
+use Rattle.names.specs.Names.{namedReading, underReading}
 use Rattle.answers.specs.Answers.{refusedAnswer, readRefusedAnswer, filledAnswer, packedAnswer, octetWrittenAnswer, messageWrittenAnswer, octetReadAnswer, heldAnswer, messageReadAnswer}
 use Rattle.wikuay.specs.Calls.{readCodingGives, writeCodingGives, holdsTextGives, packGives, packKeeps, unpackGives, unpackKeeps, textToSeptetsGives, textToSeptetsKeeps, septetsToTextGives, septetsToTextKeeps, readMessageGives, readMessageKeeps, writeMessageGives, writeMessageKeeps}
 use Rattle.wikuay.specs.Refusing.{among, Judged}

@@ -27,12 +27,13 @@ use Rattle.writer.specs.Settled.{settledAs, settledWrites, settledLeaves}
 use Rattle.writer.proofs.Settling.{settled-writes}
 use Rattle.names.specs.declared.ReadingNumbers.{ReadingNumbers}
 use Rattle.answers.specs.declared.ReadAnswer.{ReadAnswer}
-use Rattle.names.specs.declared.NamedService.the-variants as service
+use Rattle.words.specs.declared.NamedService.the-variants as service
 use Rattle.names.specs.declared.NamedReading.{NamedReading}
 use Rattle.names.specs.declared.NamedReading.the-variants as reading
 use Rattle.names.specs.declared.said.Heard.{Heard}
 use Rattle.names.specs.declared.said.Heard.the-variants as heard
-use Rattle.names.specs.Names.{numbersOf, namedService, namedReading, underReading}
+use Rattle.words.specs.Services.{namedService}
+use Rattle.names.specs.Names.{numbersOf, namedReading, underReading}
 use Rattle.answers.specs.Answers.{readRefusedAnswer, messageWrittenAnswer, messageReadAnswer, shownAnswer}
 use Rattle.wikuay.specs.Calls.{readMessageGives, readMessageKeeps, writeMessageGives, writeMessageKeeps}
 use Rattle.names.specs.Said.{settledIn, heldBy, heardBy}

@@ -1,7 +1,7 @@
 -- What each exported call gives, and what it keeps in the lent buffer: the library's own answer for what the numbers name, in numbers.
 -- Own rule: a number that names no service is refused 8 before all else, and so is a reading with a number that names nothing; the
 -- buffer is then kept as it came. Cited by the exported calls. Assumes nothing.
-use Prim.Native.Nat.{ℕ}
+use Prim.Native.Nat.{ℕ, _+_, _*_}
 use mathlib.Core.List.{List}
 use Rattle.words.specs.declared.Service.the-variants.{ShortMessage}
 use Rattle.words.specs.declared.Refusal.the-variants.{Unwritable}
@@ -16,8 +16,16 @@ use Rattle.demands.specs.MessageWritten.{writeAnswers, writeLeaves}
 use Rattle.names.specs.declared.ReadingNumbers.{ReadingNumbers}
 use Rattle.answers.specs.declared.Answer.{Answer}
 use Rattle.answers.specs.declared.ReadAnswer.{ReadAnswer}
-use Rattle.names.specs.Names.{namedService, namedReading, underService, underReading}
+use Rattle.words.specs.Services.{namedService, underService}
+use Rattle.names.specs.Names.{namedReading, underReading}
 use Rattle.answers.specs.Answers.{refusedAnswer, readRefusedAnswer, filledAnswer, packedAnswer, octetWrittenAnswer, messageWrittenAnswer, octetReadAnswer, heldAnswer, messageReadAnswer}
+
+-- a version as one number that compares: 102 is 0.1.2
+abbrev pub versionNumber : ℕ → ℕ → ℕ → ℕ
+versionNumber major minor patch = 10000 * major + 100 * minor + patch
+
+unfoldable pub versionGives : ℕ
+versionGives = versionNumber 0 1 0
 
 unfoldable pub readCodingGives : ℕ → ℕ → ReadAnswer
 readCodingGives service coding =

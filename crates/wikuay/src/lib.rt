@@ -6,25 +6,33 @@ ghost use lib.ListN.{length};
 ghost use Rattle.stream.specs.Answers.{packedCount};
 ghost use Rattle.demands.specs.Reports.{writeCount};
 ghost use Rattle.answers.specs.Answers.{packedAnswer, messageWrittenAnswer};
-ghost use Rattle.wikuay.specs.Calls.{readCodingGives, writeCodingGives, holdsTextGives, packGives, packKeeps, unpackGives, unpackKeeps, textToSeptetsGives, textToSeptetsKeeps, septetsToTextGives, septetsToTextKeeps, readMessageGives, readMessageKeeps, writeMessageGives, writeMessageKeeps};
+ghost use Rattle.wikuay.specs.Calls.{versionGives, readCodingGives, writeCodingGives, holdsTextGives, packGives, packKeeps, unpackGives, unpackKeeps, textToSeptetsGives, textToSeptetsKeeps, septetsToTextGives, septetsToTextKeeps, readMessageGives, readMessageKeeps, writeMessageGives, writeMessageKeeps};
 use answers::Answer;
 use answers::ReadAnswer;
 use demands::MessageWritten;
 use names::NamedReading;
-use names::NamedService;
 use names::ReadingNumbers;
 use names::said;
 use names::said::Heard;
 use stream::Packed;
+use words::NamedService;
 use words::Refusal;
 use words::Service;
+
+// The version of the library as one number, as the header has it.
+#[no_mangle]
+pub extern "C" fn wikuay_version() -> u32
+    ensures answer { λ r. ⌜ r ≡ versionGives ⌝ }
+{
+    100
+}
 
 // What a coding octet says under a service. Refuses 8, 2.
 #[no_mangle]
 pub extern "C" fn wikuay_read_coding(service: u32, coding: u8) -> ReadAnswer
     ensures answer { λ r. ⌜ r ≡ readCodingGives service coding ⌝ }
 {
-    match names::service(service) {
+    match words::named_service(service) {
         NamedService::Named(service) => answers::octet_read(coding::read_octet(service, coding)),
         NamedService::Unnamed => answers::read_refused(Refusal::Unwritable),
     }
@@ -35,7 +43,7 @@ pub extern "C" fn wikuay_read_coding(service: u32, coding: u8) -> ReadAnswer
 pub extern "C" fn wikuay_write_coding(service: u32, reading: ReadingNumbers) -> Answer
     ensures answer { λ r. ⌜ r ≡ writeCodingGives service reading ⌝ }
 {
-    match names::service(service) {
+    match words::named_service(service) {
         NamedService::Named(service) => match names::reading(reading) {
             NamedReading::Named(reading) => answers::octet_written(reading.write(service)),
             NamedReading::Unnamed => answers::refused(Refusal::Unwritable),
@@ -61,7 +69,7 @@ pub extern "C" fn wikuay_pack(service: u32, septets: &[u8], out: &mut [u8]) -> A
     ensures answer { λ r. ⌜ r ≡ packGives service (now (septets .entry)) (length (now (out .entry))) ⌝ }
     ensures buffer { λ r. ⌜ now (out .exit) ≡ packKeeps service (now (septets .entry)) (now (out .entry)) ⌝ }
 {
-    match names::service(service) {
+    match words::named_service(service) {
         NamedService::Named(service) => packed(packing::pack(service, septets, out)),
         NamedService::Unnamed => answers::refused(Refusal::Unwritable),
     }
@@ -73,7 +81,7 @@ pub extern "C" fn wikuay_unpack(service: u32, octets: &[u8], count: usize, out: 
     ensures answer { λ r. ⌜ r ≡ unpackGives service (now (octets .entry)) count (length (now (out .entry))) ⌝ }
     ensures buffer { λ r. ⌜ now (out .exit) ≡ unpackKeeps service (now (octets .entry)) count (now (out .entry)) ⌝ }
 {
-    match names::service(service) {
+    match words::named_service(service) {
         NamedService::Named(service) => {
             answers::filled(packing::unpack(service, octets, count, out))
         }
@@ -111,7 +119,7 @@ pub extern "C" fn wikuay_read_message(
     ensures answer { λ r. ⌜ r ≡ readMessageGives service coding count (now (octets .entry)) (length (now (out .entry))) ⌝ }
     ensures buffer { λ r. ⌜ now (out .exit) ≡ readMessageKeeps service coding count (now (octets .entry)) (now (out .entry)) ⌝ }
 {
-    match names::service(service) {
+    match words::named_service(service) {
         NamedService::Named(service) => match said::hears(service, coding) {
             Heard::Text { ucs2, reading } => answers::shown(
                 reading,
@@ -134,7 +142,7 @@ pub extern "C" fn wikuay_write_message(
     ensures answer { λ r. ⌜ r ≡ writeMessageGives service reading (now (text .entry)) (length (now (out .entry))) ⌝ }
     ensures buffer { λ r. ⌜ now (out .exit) ≡ writeMessageKeeps service reading (now (text .entry)) (now (out .entry)) ⌝ }
 {
-    match names::service(service) {
+    match words::named_service(service) {
         NamedService::Named(service) => message_written(writer::write_settled(
             said::settled(service, reading),
             text,

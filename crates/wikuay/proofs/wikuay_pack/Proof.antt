@@ -9,8 +9,8 @@ use borrow.Author.Needs.{needs}
 use Rattle.wikuay.proofs.wikuay_pack.Statement.{statement}
 use Rattle.wikuay.proofs.wikuay_pack.Tie as tie
 
-service-requires : tie.Need-service-requires
-service-requires c κs = search needs
+named-service-requires : tie.Need-named-service-requires
+named-service-requires c κs = search needs
 
 enum-known-service : tie.Need-enum-known-service
 enum-known-service c = search needs
@@ -32,17 +32,17 @@ same-length c = search needs
 
 returns : tie.Need-returns
 unfolding packGives packKeeps
-returns c = (simp (c .packed .ensures, c .before .before .before .pack .ensures .0, sym (c .before .before .before .before .before .before .before .before .service .ensures) ∙ c .before .before .before .before .before .before .service2 .given .1), simp (c .before .before .before .pack .ensures .1, sym (c .before .before .before .before .before .before .before .before .service .ensures) ∙ c .before .before .before .before .before .before .service2 .given .1))
+returns c = (simp (c .packed .ensures, c .before .before .before .pack .ensures .0, sym (c .before .before .before .before .before .before .before .before .named-service .ensures) ∙ c .before .before .before .before .before .before .service .given .1), simp (c .before .before .before .pack .ensures .1, sym (c .before .before .before .before .before .before .before .before .named-service .ensures) ∙ c .before .before .before .before .before .before .service .given .1))
 
 returns-2 : tie.Need-returns-2
 unfolding packGives packKeeps
-returns-2 c = (simp (c .refused .ensures, sym (c .before .before .before .service .ensures) ∙ c .before .enum-told .given .1), simp (sym (c .before .before .before .service .ensures) ∙ c .before .enum-told .given .1))
+returns-2 c = (simp (c .refused .ensures, sym (c .before .before .before .named-service .ensures) ∙ c .before .enum-told .given .1), simp (sym (c .before .before .before .named-service .ensures) ∙ c .before .enum-told .given .1))
 
 pub wikuay-pack-spec : {M : Type 1} → statement M
 wikuay-pack-spec =
     tie.close
     (tie.spec
-    service-requires
+    named-service-requires
     enum-known-service
     pack-requires
     packed-requires

@@ -5,8 +5,8 @@ use borrow.Author.Needs.{needs}
 use Rattle.wikuay.proofs.wikuay_read_coding.Statement.{statement}
 use Rattle.wikuay.proofs.wikuay_read_coding.Tie as tie
 
-service-requires : tie.Need-service-requires
-service-requires c κs = search needs
+named-service-requires : tie.Need-named-service-requires
+named-service-requires c κs = search needs
 
 enum-known-service : tie.Need-enum-known-service
 enum-known-service c = search needs
@@ -25,17 +25,17 @@ read-refused-requires c κs = search needs
 
 returns : tie.Need-returns
 unfolding readCodingGives
-returns c = simp (c .octet-read .ensures, c .before .read-octet .ensures, sym (c .before .before .before .before .before .service .ensures) ∙ c .before .before .before .service2 .given .1)
+returns c = simp (c .octet-read .ensures, c .before .read-octet .ensures, sym (c .before .before .before .before .before .named-service .ensures) ∙ c .before .before .before .service .given .1)
 
 returns-2 : tie.Need-returns-2
 unfolding readCodingGives
-returns-2 c = simp (c .read-refused .ensures, sym (c .before .before .before .service .ensures) ∙ c .before .enum-told .given .1)
+returns-2 c = simp (c .read-refused .ensures, sym (c .before .before .before .named-service .ensures) ∙ c .before .enum-told .given .1)
 
 pub wikuay-read-coding-spec : {M : Type 1} → statement M
 wikuay-read-coding-spec =
     tie.close
     (tie.spec
-    service-requires
+    named-service-requires
     enum-known-service
     read-octet-requires
     octet-read-requires

@@ -8,8 +8,8 @@ use borrow.Author.Needs.{needs}
 use Rattle.wikuay.proofs.wikuay_read_message.Statement.{statement}
 use Rattle.wikuay.proofs.wikuay_read_message.Tie as tie
 
-service-requires : tie.Need-service-requires
-service-requires c κs = search needs
+named-service-requires : tie.Need-named-service-requires
+named-service-requires c κs = search needs
 
 enum-known-service : tie.Need-enum-known-service
 enum-known-service c = search needs
@@ -49,7 +49,7 @@ returns c =
     let told = asked .before .before in
     let named = told .before .before in
     let a = named .before .before .before .args in
-    let n = sym (named .service .ensures) ∙ told .service2 .given .1 in
+    let n = sym (named .named-service .ensures) ∙ told .service .given .1 in
     let g = gives-heard (a .service) _ n (a .coding) (a .count) (now (a .octets)) (now (a .out)) _ (sym (heard .ucs2 .given .1) ∙ asked .hears .ensures) in
     (c .shown .ensures ∙ ap (shownAnswer _) (did .read-text .ensures .0) ∙ g .0, did .read-text .ensures .1 ∙ g .1)
 
@@ -60,7 +60,7 @@ returns-2 c =
     let told = asked .before .before in
     let named = told .before .before in
     let a = named .before .before .before .args in
-    let n = sym (named .service .ensures) ∙ told .service2 .given .1 in
+    let n = sym (named .named-service .ensures) ∙ told .service .given .1 in
     let g = gives-heard (a .service) _ n (a .coding) (a .count) (now (a .octets)) (now (a .out)) _ (sym (heard .refusal .given .1) ∙ asked .hears .ensures) in
     (c .read-refused .ensures ∙ g .0, g .1)
 
@@ -68,14 +68,14 @@ returns-3 : tie.Need-returns-3
 unfolding readMessageGives readMessageKeeps
 returns-3 c =
     let told = c .before in
-    let n = sym (told .before .before .service .ensures) ∙ told .enum-told .given .1 in
+    let n = sym (told .before .before .named-service .ensures) ∙ told .enum-told .given .1 in
     (simp (c .read-refused2 .ensures, n), simp n)
 
 pub wikuay-read-message-spec : {M : Type 1} → statement M
 wikuay-read-message-spec =
     tie.close
     (tie.spec
-    service-requires
+    named-service-requires
     enum-known-service
     hears-requires
     enum-known-ucs2

@@ -5,8 +5,8 @@ use borrow.Author.Needs.{needs}
 use Rattle.wikuay.proofs.wikuay_unpack.Statement.{statement}
 use Rattle.wikuay.proofs.wikuay_unpack.Tie as tie
 
-service-requires : tie.Need-service-requires
-service-requires c κs = search needs
+named-service-requires : tie.Need-named-service-requires
+named-service-requires c κs = search needs
 
 enum-known-service : tie.Need-enum-known-service
 enum-known-service c = search needs
@@ -28,17 +28,17 @@ same-length c = search needs
 
 returns : tie.Need-returns
 unfolding unpackGives unpackKeeps
-returns c = (simp (c .filled .ensures, c .before .before .before .unpack .ensures .0, sym (c .before .before .before .before .before .before .before .before .service .ensures) ∙ c .before .before .before .before .before .before .service2 .given .1), simp (c .before .before .before .unpack .ensures .1, sym (c .before .before .before .before .before .before .before .before .service .ensures) ∙ c .before .before .before .before .before .before .service2 .given .1))
+returns c = (simp (c .filled .ensures, c .before .before .before .unpack .ensures .0, sym (c .before .before .before .before .before .before .before .before .named-service .ensures) ∙ c .before .before .before .before .before .before .service .given .1), simp (c .before .before .before .unpack .ensures .1, sym (c .before .before .before .before .before .before .before .before .named-service .ensures) ∙ c .before .before .before .before .before .before .service .given .1))
 
 returns-2 : tie.Need-returns-2
 unfolding unpackGives unpackKeeps
-returns-2 c = (simp (c .refused .ensures, sym (c .before .before .before .service .ensures) ∙ c .before .enum-told .given .1), simp (sym (c .before .before .before .service .ensures) ∙ c .before .enum-told .given .1))
+returns-2 c = (simp (c .refused .ensures, sym (c .before .before .before .named-service .ensures) ∙ c .before .enum-told .given .1), simp (sym (c .before .before .before .named-service .ensures) ∙ c .before .enum-told .given .1))
 
 pub wikuay-unpack-spec : {M : Type 1} → statement M
 wikuay-unpack-spec =
     tie.close
     (tie.spec
-    service-requires
+    named-service-requires
     enum-known-service
     unpack-requires
     filled-requires

@@ -5,8 +5,8 @@ use borrow.Author.Needs.{needs}
 use Rattle.wikuay.proofs.wikuay_write_coding.Statement.{statement}
 use Rattle.wikuay.proofs.wikuay_write_coding.Tie as tie
 
-service-requires : tie.Need-service-requires
-service-requires c κs = search needs
+named-service-requires : tie.Need-named-service-requires
+named-service-requires c κs = search needs
 
 enum-known-service : tie.Need-enum-known-service
 enum-known-service c = search needs
@@ -37,21 +37,21 @@ refused-requires-2 c κs = search needs
 
 returns : tie.Need-returns
 unfolding writeCodingGives
-returns c = simp (c .octet-written .ensures, c .before .write .ensures, sym (c .before .before .before .before .before .reading .ensures) ∙ c .before .before .before .reading2 .given .1, sym (c .before .before .before .before .before .before .before .before .before .service .ensures) ∙ c .before .before .before .before .before .before .before .service2 .given .1)
+returns c = simp (c .octet-written .ensures, c .before .write .ensures, sym (c .before .before .before .before .before .reading .ensures) ∙ c .before .before .before .reading2 .given .1, sym (c .before .before .before .before .before .before .before .before .before .named-service .ensures) ∙ c .before .before .before .before .before .before .before .service .given .1)
 
 returns-2 : tie.Need-returns-2
 unfolding writeCodingGives
-returns-2 c = simp (c .refused .ensures, sym (c .before .before .before .reading .ensures) ∙ c .before .enum-told .given .1, sym (c .before .before .before .before .before .before .before .service .ensures) ∙ c .before .before .before .before .before .service2 .given .1)
+returns-2 c = simp (c .refused .ensures, sym (c .before .before .before .reading .ensures) ∙ c .before .enum-told .given .1, sym (c .before .before .before .before .before .before .before .named-service .ensures) ∙ c .before .before .before .before .before .service .given .1)
 
 returns-3 : tie.Need-returns-3
 unfolding writeCodingGives
-returns-3 c = simp (c .refused2 .ensures, sym (c .before .before .before .service .ensures) ∙ c .before .enum-told2 .given .1)
+returns-3 c = simp (c .refused2 .ensures, sym (c .before .before .before .named-service .ensures) ∙ c .before .enum-told2 .given .1)
 
 pub wikuay-write-coding-spec : {M : Type 1} → statement M
 wikuay-write-coding-spec =
     tie.close
     (tie.spec
-    service-requires
+    named-service-requires
     enum-known-service
     reading-requires
     enum-known-reading

@@ -16,8 +16,8 @@ use borrow.Author.Needs.{needs}
 use Rattle.wikuay.proofs.wikuay_write_message.Statement.{statement}
 use Rattle.wikuay.proofs.wikuay_write_message.Tie as tie
 
-service-requires : tie.Need-service-requires
-service-requires c κs = search needs
+named-service-requires : tie.Need-named-service-requires
+named-service-requires c κs = search needs
 
 enum-known-service : tie.Need-enum-known-service
 enum-known-service c = search needs
@@ -35,7 +35,7 @@ message-written-requires c κs =
     let told = asked .before .before in
     let named = told .before .before in
     let a = named .before .before .before .args in
-    let n = sym (named .service .ensures) ∙ told .service2 .given .1 in
+    let n = sym (named .named-service .ensures) ∙ told .service .given .1 in
     let g = gives-settled (a .service) (a .reading) _ n (now (a .text)) (now (a .out)) in
     let w = did .write-settled .ensures .0 ∙ ap (λ (x : Settled). settledWrites x (now (a .text)) (length (now (a .out)))) (asked .settled .ensures) in
     subst (λ (w : MessageWritten). writeCount w ≤ 160) (sym w) (subst (λ (k : ℕ). k ≤ 160) (sym (ap (λ (b : Answer). b .count) (g .0))) (gives-count (a .service) (a .reading) (now (a .text)) (length (now (a .out)))))
@@ -56,7 +56,7 @@ returns c =
     let told = asked .before .before in
     let named = told .before .before in
     let a = named .before .before .before .args in
-    let n = sym (named .service .ensures) ∙ told .service2 .given .1 in
+    let n = sym (named .named-service .ensures) ∙ told .service .given .1 in
     let g = gives-settled (a .service) (a .reading) _ n (now (a .text)) (now (a .out)) in (
       c .message-written .ensures ∙ ap messageWrittenAnswer (did .write-settled .ensures .0 ∙ ap (λ (x : Settled). settledWrites x (now (a .text)) (length (now (a .out)))) (asked .settled .ensures)) ∙ g .0,
       did .write-settled .ensures .1 ∙ ap (λ (x : Settled). settledLeaves x (now (a .text)) (now (a .out))) (asked .settled .ensures) ∙ g .1,
@@ -66,14 +66,14 @@ returns-2 : tie.Need-returns-2
 unfolding writeMessageGives writeMessageKeeps
 returns-2 c =
     let told = c .before in
-    let n = sym (told .before .before .service .ensures) ∙ told .enum-told .given .1 in
+    let n = sym (told .before .before .named-service .ensures) ∙ told .enum-told .given .1 in
     (simp (c .refused .ensures, n), simp n)
 
 pub wikuay-write-message-spec : {M : Type 1} → statement M
 wikuay-write-message-spec =
     tie.close
     (tie.spec
-    service-requires
+    named-service-requires
     enum-known-service
     settled-requires
     write-settled-requires
