@@ -1,17 +1,19 @@
 // Runs cases from standard input on the library (docs/CASES.md): a line for each that differs, and the totals.
-mod calls;
-mod readings;
-mod text;
+mod reading;
+mod values;
 
-use calls::call_of;
-use calls::is_answer;
-use calls::run;
+use answers::Answer;
+use answers::ReadAnswer;
 use libc::STDIN_FILENO;
 use libc::STDOUT_FILENO;
-use text::after;
-use text::end_at;
-use text::front;
-use text::part;
+use printed::put;
+use values::Values;
+use values::end_at;
+use values::more;
+use values::part;
+use values::plain;
+use values::within;
+use values::within_units;
 
 // The lines so far, the cases among them, and those that differ; and how much of the present line has come, which stays at
 // 8193 for a line that is too long.
@@ -49,145 +51,280 @@ fn is_label(c: u8) -> bool {
     }
 }
 
-// Where the label of 1 to 64 characters ends that opens the line, or 0 where there is none.
+// Where the label ends that opens the line: 1 to 64 characters, and a space behind them. 0 is none.
 fn label_end(line: &[u8]) -> usize {
-    let mut i: usize = 0;
-    while i < line.len() {
+    for i in 0..line.len() {
         if !is_label(line[i]) {
-            if line[i] == 32 && i < 65 {
-                return i;
-            }
-            return 0;
+            return if line[i] == 32 && i < 65 { i } else { 0 };
         }
-        i += 1;
     }
     0
 }
 
-// The expected answer, which the colon at a place stands before.
-fn expected(line: &[u8], at: usize) -> &[u8] {
-    part(line, after(line, at, b" : "), line.len())
+// The answers of the calls, in the numbers of a case.
+fn answered(answer: Answer) -> Values {
+    let mut came = plain();
+    came.refusal = answer.refusal as usize;
+    came.position = answer.position;
+    came.written = answer.written;
+    came.count = answer.count as usize;
+    came.coding = answer.coding;
+    came.n = answer.written;
+    came
 }
 
-// Whether the expected answer is the one that came, to the letter.
-fn agrees(line: &[u8], at: usize, came: &[u8]) -> bool {
-    0 < after(line, at, b" : ") && check::same(expected(line, at), came)
+fn read_answered(answer: ReadAnswer) -> Values {
+    let mut came = plain();
+    let reading = answer.reading;
+    came.refusal = answer.refusal as usize;
+    came.position = answer.position;
+    came.written = answer.written;
+    came.held = answer.holds as usize;
+    came.reading = reading;
+    came.n = answer.written;
+    came
 }
 
-fn report(line: &[u8], label: usize, at: usize, came: &[u8]) {
-    say(front(line, label));
+// Calls the library on what a case hands over: its answer, and what it leaves in the buffer of octets or in that of units.
+fn called(
+    call: usize,
+    given: Values,
+    octets: &[u8],
+    units: &[u16],
+    out: &mut [u8],
+    text: &mut [u16],
+) -> Values {
+    let service = (given.service % 8) as u32;
+    let reading = given.reading;
+    match call {
+        0 => read_answered(wikuay::wikuay_read_coding(service, given.coding)),
+        1 => answered(wikuay::wikuay_write_coding(service, reading)),
+        2 => read_answered(wikuay::wikuay_holds_text(reading)),
+        3 => answered(wikuay::wikuay_pack(service, octets, out)),
+        4 => answered(wikuay::wikuay_unpack(service, octets, given.count, out)),
+        5 => answered(wikuay::wikuay_text_to_septets(units, out)),
+        6 => answered(wikuay::wikuay_septets_to_text(octets, text)),
+        7 => read_answered(wikuay::wikuay_read_message(
+            service,
+            given.coding,
+            given.count,
+            octets,
+            text,
+        )),
+        _ => answered(wikuay::wikuay_write_message(service, reading, units, out)),
+    }
+}
+
+// The call is lent the fronts of the buffers, as long as the room.
+fn called_in(
+    call: usize,
+    given: Values,
+    octets: &[u8],
+    units: &[u16],
+    out: &mut [u8],
+    text: &mut [u16],
+) -> Values {
+    let n = within(given.n, octets);
+    let k = within_units(given.n, units);
+    let room = within(given.room, out);
+    let more = within_units(given.room, text);
+    called(
+        call,
+        given,
+        &octets[..n],
+        &units[..k],
+        &mut out[..room],
+        &mut text[..more],
+    )
+}
+
+// The first octet from a place on that is not the filling, or the length where each is.
+fn touched_octet(out: &[u8], from: usize) -> usize {
+    for i in from..out.len() {
+        if out[i] != 0xa5 {
+            return i;
+        }
+    }
+    out.len()
+}
+
+fn touched_unit(out: &[u16], from: usize) -> usize {
+    for i in from..out.len() {
+        if out[i] != 0xa5a5 {
+            return i;
+        }
+    }
+    out.len()
+}
+
+// Puts where the room behind what was written was touched.
+fn put_touched(
+    came: &mut [u8],
+    at: usize,
+    call: usize,
+    written: usize,
+    out: &[u8],
+    text: &[u16],
+) -> usize {
+    let place = if call == 6 || call == 7 {
+        touched_unit(text, written)
+    } else {
+        touched_octet(out, written)
+    };
+    if out.len() <= place {
+        return at;
+    }
+    let end = put(came, at, b" touched=");
+    values::put_number(came, end, place)
+}
+
+// Calls the library, and puts its answer by the pattern.
+fn run(
+    call: usize,
+    given: Values,
+    octets: &[u8],
+    units: &[u16],
+    pattern: &[u8],
+    came: &mut [u8],
+) -> usize {
+    let mut out = [0xa5u8; 4096];
+    let mut text = [0xa5a5u16; 4096];
+    let answer = called_in(call, given, octets, units, &mut out, &mut text);
+    let room = within(given.room, &out);
+    let more = within_units(given.room, &text);
+    let end = values::put_by(came, pattern, answer, &out[..room], &text[..more]);
+    put_touched(came, end, call, answer.written, &out[..room], &text[..more])
+}
+
+// How much of the text the pattern puts with the values; 0 where the text is another.
+fn spelled(pattern: &[u8], text: &[u8], values: Values, octets: &[u8], units: &[u16]) -> usize {
+    let mut again = [0u8; 8193];
+    let n = values::put_by(&mut again, pattern, values, octets, units);
+    let k = within(n, &again);
+    if check::same(part(text, 0, k), &again[..k]) {
+        k
+    } else {
+        0
+    }
+}
+
+// Whether the text is an answer by the pattern, whatever it expects.
+fn is_answer(pattern: &[u8], text: &[u8]) -> bool {
+    let mut octets = [0u8; 4096];
+    let mut units = [0u16; 4096];
+    let values = values::take_by(pattern, text, &mut octets, &mut units);
+    let n = spelled(pattern, text, values, &octets, &units);
+    0 < n && n == text.len()
+}
+
+fn report(label: &[u8], expected: &[u8], came: &[u8]) {
+    say(label);
     say(b": expected ");
-    say(expected(line, at));
+    say(expected);
     say(b"; came ");
     say(came);
     say(b"\n");
 }
 
-// Runs the case in a line, and answers whether it agrees. If not, it says why.
-fn judge(line: &[u8], number: u64, came: &mut [u8]) -> bool {
+// Runs the case in a line, and answers whether it agrees (0), differs (1), or is none (2). Where it differs, it says so.
+fn judge_case(patterns: &[u8], line: &[u8], came: &mut [u8]) -> usize {
     let label = label_end(line);
-    if line.len() <= label {
-        say_line(number, b": not a case\n");
-        return false;
+    let text = part(line, more(label), line.len());
+    if label == 0 {
+        return 2;
     }
-    let to = end_at(line, label + 1, 32);
-    let call = call_of(part(line, label + 1, to));
-    let ran = run(call, line, to, came);
-    if agrees(line, ran.at, front(came, ran.len)) {
-        return true;
+    let mut octets = [0u8; 4096];
+    let mut units = [0u16; 4096];
+    let call = values::place_of(
+        b"read-coding|write-coding|holds-text|pack|unpack|text-to-septets|septets-to-text|read-message|write-message|",
+        part(text, 0, end_at(text, 0, 32)),
+    );
+    let inputs = values::nth(patterns, call % 16 * 2);
+    let answer = values::nth(patterns, call % 16 * 2 + 1);
+    let given = values::take_by(inputs, text, &mut octets, &mut units);
+    let at = spelled(inputs, text, given, &octets, &units);
+    if at == 0 {
+        return 2;
     }
-    if is_answer(call, line, ran.at) {
-        report(line, label, ran.at, front(came, ran.len));
-    } else {
-        say_line(number, b": not a case\n");
+    let expected = part(text, at, text.len());
+    let n = run(call, given, &octets, &units, answer, came);
+    let k = within(n, came);
+    if check::same(expected, &came[..k]) {
+        return 0;
     }
-    false
+    if !is_answer(answer, expected) {
+        return 2;
+    }
+    report(part(line, 0, label), expected, &came[..k]);
+    1
 }
 
-// Whether so much of the line buffer is a case: a line without a character and a comment are none.
-fn is_case(line: &[u8], len: usize) -> bool {
-    if len == 0 {
-        return false;
-    }
-    if line.len() < len {
-        return false;
-    }
-    line[0] != b'#'
-}
-
-// Whether the case in so much of the line buffer agrees.
-fn agrees_up_to(line: &[u8], len: usize, number: u64, came: &mut [u8]) -> bool {
-    if 8192 < len {
+// Runs the case in a line, and answers whether it agrees.
+fn judge(patterns: &[u8], line: &[u8], number: u64, came: &mut [u8]) -> bool {
+    if 8192 < line.len() {
         say_line(number, b": longer than 8192 characters\n");
         return false;
     }
-    judge(front(line, len), number, came)
+    let judged = judge_case(patterns, line, came);
+    if judged == 2 {
+        say_line(number, b": not a case\n");
+    }
+    judged == 0
 }
 
-// Runs what stands in the line buffer, if that is a case. At the end of the input that is a line without a line feed.
-fn end_line(line: &[u8], came: &mut [u8], t: Totals) -> Totals {
+// Runs what stands in the line buffer, if that is a case: an empty line and a comment are none. At the end of the input that is a line
+// without a line feed.
+fn end_line(patterns: &[u8], line: &[u8], came: &mut [u8], t: Totals) -> Totals {
     let number = next(t.lines);
-    let len = t.len;
-    if !is_case(line, len) {
-        return Totals {
-            lines: number,
-            cases: t.cases,
-            differ: t.differ,
-            len: 0,
-        };
+    let n = within(t.len, line);
+    let mut total = t;
+    total.lines = number;
+    total.len = 0;
+    if n == 0 {
+        return total;
     }
-    let agrees = agrees_up_to(line, len, number, came);
-    Totals {
-        lines: number,
-        cases: next(t.cases),
-        differ: if agrees { t.differ } else { next(t.differ) },
-        len: 0,
+    if line[0] == b'#' {
+        return total;
     }
+    total.cases = next(t.cases);
+    if !judge(patterns, &line[..n], number, came) {
+        total.differ = next(t.differ);
+    }
+    total
 }
 
 // Takes in one octet: a line feed closes a line.
-fn take_in(c: u8, line: &mut [u8], came: &mut [u8], t: Totals) -> Totals {
+fn take_in(patterns: &[u8], c: u8, line: &mut [u8], came: &mut [u8], t: Totals) -> Totals {
+    let one = [c];
+    let mut total = t;
     if c == 10 {
-        return end_line(line, came, t);
+        return end_line(patterns, line, came, t);
     }
-    let len = t.len;
-    if line.len() <= len {
-        return t;
-    }
-    line[len] = c;
-    Totals {
-        lines: t.lines,
-        cases: t.cases,
-        differ: t.differ,
-        len: len + 1,
-    }
+    total.len = put(line, t.len, &one);
+    total
 }
 
 // Takes in what was read.
-fn feed(chunk: &[u8], line: &mut [u8], came: &mut [u8], totals: Totals) -> Totals {
+fn feed(patterns: &[u8], chunk: &[u8], line: &mut [u8], came: &mut [u8], totals: Totals) -> Totals {
     let mut t = totals;
-    let mut i: usize = 0;
-    while i < chunk.len() {
-        t = take_in(chunk[i], line, came, t);
-        i += 1;
+    for i in 0..chunk.len() {
+        t = take_in(patterns, chunk[i], line, came, t);
     }
     t
 }
 
 // A failed read is a case that differs: what was not read was not run.
 fn unread(t: Totals) -> Totals {
+    let mut total = t;
     say(b"standard input cannot be read\n");
-    Totals {
-        lines: t.lines,
-        cases: next(t.cases),
-        differ: next(t.differ),
-        len: t.len,
-    }
+    total.cases = next(t.cases);
+    total.differ = next(t.differ);
+    total
 }
 
 // Reads to the end. A proved loop has to end, and nothing says that the input does: so it counts its turns down, from a number
 // that no run uses up.
-fn feed_all(chunk: &mut [u8], line: &mut [u8], came: &mut [u8]) -> Totals {
+fn feed_all(patterns: &[u8], chunk: &mut [u8], line: &mut [u8], came: &mut [u8]) -> Totals {
     let mut t = Totals {
         lines: 0,
         cases: 0,
@@ -204,7 +341,7 @@ fn feed_all(chunk: &mut [u8], line: &mut [u8], came: &mut [u8]) -> Totals {
             return t;
         }
         let n = io::count(got, chunk);
-        t = feed(&chunk[..n], line, came, t);
+        t = feed(patterns, &chunk[..n], line, came, t);
         turns -= 1;
     }
     t
@@ -214,11 +351,14 @@ fn main() {
     let mut chunk = io::large_buffer();
     let mut line = [0u8; 8193];
     let mut came = [0u8; 20480];
-    let t = feed_all(&mut chunk, &mut line, &mut came);
+    // Of each call, in the order of their numbers: its name and inputs, and its answer.
+    let patterns =
+        b"read-coding service=S coding=C : |refusal=F position=P reading=R|write-coding service=S reading=R : |refusal=F position=P coding=C|holds-text reading=R : |refusal=F position=P holds=H|pack service=S septets=O room=M : |refusal=F position=P written=W count=N out=O|unpack service=S count=N octets=O room=M : |refusal=F position=P written=W out=O|text-to-septets text=U room=M : |refusal=F position=P written=W out=O|septets-to-text septets=O room=M : |refusal=F position=P written=W out=U|read-message service=S coding=C count=N octets=O room=M : |refusal=F position=P written=W reading=R out=U|write-message service=S reading=R text=U room=M : |refusal=F position=P written=W count=N coding=C out=O|";
+    let t = feed_all(patterns, &mut chunk, &mut line, &mut came);
     let total = if t.len == 0 {
         t
     } else {
-        end_line(&line, &mut came, t)
+        end_line(patterns, &line, &mut came, t)
     };
     io::print_decimal(STDOUT_FILENO, total.cases);
     say(b" cases, ");

@@ -1,210 +1,214 @@
 // A message drawn: its octets, where each septet or unit lies in them, and what it means.
-use crate::job;
-use crate::job::Job;
-use crate::line;
-use crate::refused;
-use crate::say;
-use words::Filled;
+use crate::asked;
+use crate::asked::Job;
+use crate::tell;
+use printed::put;
 
 const ESCAPE: u8 = 0x1b;
 
-// A name and the number, the octet and its eight bits, or the septet and its seven.
-fn piece(name: &[u8], n: usize, value: u8, bits: usize) {
-    say::numbered(name, n);
-    say::say(b" ");
-    say::octet(value);
-    say::say(b" ");
-    if bits == 7 {
-        say::bits(value % 128 * 2, 7);
-    } else {
-        say::bits(value, 8);
-    }
+fn wide(octet: u8) -> usize {
+    octet as usize
 }
 
-pub(crate) fn octets(list: &[u8]) {
+fn octets(out: &mut [u8], at: usize, list: &[u8]) -> usize {
+    let mut end = at;
     for j in 0..list.len() {
-        piece(b"octet ", j, list[j], 8);
-        say::say(b"\n");
+        let v = wide(list[j]);
+        let numbers = [j, v, v % 256 * 16 + 8];
+        end = tell::say(out, end, tell::PEOPLE, b"octet # $ !/", &numbers);
     }
+    end
 }
 
 // The bits of octet j from high down to low.
-fn place(j: usize, high: usize, low: usize) {
-    say::numbered(b" octet ", j);
+fn place(out: &mut [u8], at: usize, j: usize, high: usize, low: usize) -> usize {
     if low < high {
-        say::numbered(b" bits ", high);
-        say::numbered(b"..", low);
-    } else {
-        say::numbered(b" bit ", low);
+        let numbers = [j, high, low];
+        return tell::say(out, at, tell::PEOPLE, b" octet # bits #..#", &numbers);
     }
+    let numbers = [j, low];
+    tell::say(out, at, tell::PEOPLE, b" octet # bit #", &numbers)
 }
 
 // A septet and where it lies: bits 7k to 7k + 6 of the stream, eight to an octet, lowest first.
-fn septet(k: usize, value: u8) {
-    piece(b"septet ", k, value, 7);
-    if k < 200 {
-        let j = 7 * k / 8;
-        let low = 7 * k % 8;
-        if low < 2 {
-            place(j, low + 6, low);
-        } else {
-            place(j, 7, low);
-            say::say(b",");
-            place(j + 1, low - 2, 0);
-        }
+fn septet(out: &mut [u8], at: usize, k: usize, value: u8) -> usize {
+    let v = wide(value);
+    let numbers = [k, v, v % 128 * 32 + 7];
+    let end = tell::say(out, at, tell::PEOPLE, b"septet # $ !", &numbers);
+    let j = k % 200 * 7 / 8;
+    let low = k % 200 * 7 % 8;
+    if low < 2 {
+        return place(out, end, j, low + 6, low);
     }
-    say::say(b": ");
+    let end = place(out, end, j, 7, low);
+    let end = put(out, end, b",");
+    place(out, end, j + 1, low - 2, 0)
 }
 
-// The one unit that the septets read as.
-fn unit_of(septets: &[u8], old: bool) -> u16 {
-    let mut unit = [0u16; 2];
-    if old {
-        to_text::old_page_to_text(septets, &mut unit);
-    } else {
-        to_text::septets_to_text(septets, &mut unit);
-    }
-    unit[0]
-}
-
-fn letter(unit: u16) {
+// How a unit is named: LF, CR, a space, or as it is.
+fn letter_of(unit: u16) -> usize {
     match unit {
-        10 => say::say(b"LF\n"),
-        13 => say::say(b"CR\n"),
-        32 => say::say(b"space\n"),
-        _ => {
-            say::unit(unit, say::SHOWN);
-            say::say(b"\n");
+        10 => 0,
+        13 => 1,
+        32 => 2,
+        _ => 3,
+    }
+}
+
+// What a septet means, and its unit, where it has one.
+fn meaning(out: &mut [u8], at: usize, how: usize, unit: u16) -> usize {
+    let numbers = [how, if how < 3 { letter_of(unit) } else { 4 }];
+    let one = [unit];
+    tell::tell(
+        out,
+        at,
+        tell::PEOPLE,
+        b": {|with the escape |not listed behind an escape, with it |escape|a second escape, with the first a space|
+escape with nothing behind it, a space}{LF|CR|space|~|}/",
+        &numbers,
+        b"",
+        &one,
+    )
+}
+
+// Whether the septet alone reads as the unit.
+fn reads_as(septet: u8, unit: u16) -> bool {
+    let alone = [septet];
+    let mut units = [0u16; 1];
+    wikuay::wikuay_septets_to_text(&alone, &mut units);
+    units[0] == unit
+}
+
+// How a septet is told (`meaning`): 3 is an escape that waits for the next one.
+fn how_of(septet: u8, waits: bool, last: bool, old: bool, unit: u16) -> usize {
+    if waits {
+        if septet == ESCAPE {
+            4
+        } else if reads_as(septet, unit) {
+            2
+        } else {
+            1
+        }
+    } else if old || septet != ESCAPE {
+        0
+    } else if last {
+        5
+    } else {
+        3
+    }
+}
+
+fn septets(out: &mut [u8], at: usize, list: &[u8], units: &[u16], old: bool) -> usize {
+    let mut end = at;
+    let mut waits = false;
+    let mut u: usize = 0;
+    for k in 0..list.len() {
+        let unit = if u < units.len() { units[u] } else { 0 };
+        let how = how_of(list[k], waits, list.len() - k == 1, old, unit);
+        end = septet(out, end, k, list[k]);
+        end = meaning(out, end, how, unit);
+        waits = how == 3;
+        if !waits {
+            u = tell::more(u);
         }
     }
-}
-
-// What a septet behind an escape makes with it.
-fn pair(septet: u8) {
-    if septet == ESCAPE {
-        say::say(b"a second escape, with the first a space\n");
-        return;
-    }
-    let both = [ESCAPE, septet];
-    let alone = [septet];
-    let unit = unit_of(&both, false);
-    if unit == unit_of(&alone, false) {
-        say::say(b"not listed behind an escape, with it ");
-    } else {
-        say::say(b"with the escape ");
-    }
-    letter(unit);
-}
-
-// What a septet means; answers whether it is an escape that waits for the next one.
-fn meaning(septet: u8, waiting: bool, last: bool, old: bool) -> bool {
-    let alone = [septet];
-    if waiting {
-        pair(septet);
-        return false;
-    }
-    if old || septet != ESCAPE {
-        letter(unit_of(&alone, old));
-        return false;
-    }
-    if last {
-        say::say(b"escape with nothing behind it, a space\n");
-        return false;
-    }
-    say::say(b"escape\n");
-    true
-}
-
-fn each_septet(septets: &[u8], old: bool) {
-    let mut waiting = false;
-    for k in 0..septets.len() {
-        septet(k, septets[k]);
-        waiting = meaning(septets[k], waiting, septets.len() - k == 1, old);
-    }
+    end
 }
 
 // The septets from kept on, which are filling.
-fn dropped(service: usize, kept: usize, total: usize) {
-    let filler = if service == job::OLD { 0 } else { 13 };
+fn dropped(out: &mut [u8], at: usize, service: usize, kept: usize) -> usize {
+    let numbers = [kept, if service == asked::OLD { 0 } else { 13 }];
+    if service == asked::USSD {
+        return septet(out, at, kept, 13);
+    }
+    tell::say(out, at, tell::PEOPLE, b"septets from # on $", &numbers)
+}
+
+// What stands behind the septets that are kept: filling, and the bits above the last septet of all.
+fn rest(out: &mut [u8], at: usize, service: usize, kept: usize, total: usize) -> usize {
+    let numbers = [service];
     if total <= kept {
-        return;
+        return at;
     }
-    if service == job::USSD {
-        septet(kept, filler);
-    } else {
-        say::numbered(b"septets from ", kept);
-        say::say(b" on ");
-        say::octet(filler);
-        say::say(b": ");
-    }
-    say::part(
-        b"|closing CR, page filling|the CR that was added to fill the last octet|closing zero, page filling|",
-        service,
-    );
-    say::say(b", dropped\n");
+    let end = dropped(out, at, service, kept);
+    tell::say(
+        out,
+        end,
+        tell::PEOPLE,
+        b": {|closing CR, page filling|the CR that was added to fill the last octet|closing zero, page filling}, dropped/",
+        &numbers,
+    )
 }
 
 // The bits above the last of n septets.
-fn spare(octets: &[u8], n: usize) {
-    if n < 200 {
-        let j = 7 * n / 8;
-        let low = 7 * n % 8;
-        if j < octets.len() {
-            say::say(b"spare");
-            place(j, 7, low);
-            say::say(b" ");
-            say::bits(octets[j], 8 - low);
-            say::say(b"\n");
-            return;
-        }
+fn spare(out: &mut [u8], at: usize, octets: &[u8], n: usize) -> usize {
+    let j = n % 200 * 7 / 8;
+    let low = n % 200 * 7 % 8;
+    if octets.len() <= j {
+        return put(out, at, b"no spare bits\n");
     }
-    say::say(b"no spare bits\n");
+    let numbers = [wide(octets[j]) % 256 * 16 + (8 - low)];
+    let end = put(out, at, b"spare");
+    let end = place(out, end, j, 7, low);
+    tell::say(out, end, tell::PEOPLE, b" !/", &numbers)
 }
 
-pub(crate) fn septets(job: Job, octets: &[u8]) {
-    let mut septets = [0u8; 182];
-    let service = job.service;
-    let unpacked = packing::unpack(job::service_of(service), octets, job.count, &mut septets);
-    match unpacked {
-        Filled::Done(n) => {
-            let kept = line::within(n, &septets);
-            let total = if service == job::SMS {
-                kept
-            } else if service != job::USSD {
-                93
-            } else if octets.len() < 200 {
-                8 * octets.len() / 7
-            } else {
-                0
-            };
-            each_septet(&septets[..kept], service == job::OLD);
-            dropped(service, kept, total);
-            spare(octets, total);
-        }
-        Filled::Refused(refusal) => refused::told(refusal),
-    }
-}
-
-// A unit, the two octets where it lies, and its letter.
-fn unit_line(i: usize, unit: u16) {
-    say::numbered(b"unit ", i);
-    say::say(b" ");
-    say::unit(unit, say::SPELLED);
-    if i < 200 {
-        say::numbered(b" octets ", 2 * i);
-        say::numbered(b", ", 2 * i + 1);
-    }
-    say::say(b": ");
-    letter(unit);
-}
-
-// Units, and those that fill the octets of a page.
-pub(crate) fn units(list: &[u16], octets: usize) {
+fn units(out: &mut [u8], at: usize, list: &[u16], octets: usize) -> usize {
+    let mut end = at;
     for i in 0..list.len() {
-        unit_line(i, list[i]);
+        let one = [list[i]];
+        let numbers = [i, i % 200 * 2, i % 200 * 2 + 1];
+        end = tell::tell(
+            out,
+            end,
+            tell::PEOPLE,
+            b"unit # % octets #, #",
+            &numbers,
+            b"",
+            &one,
+        );
+        end = meaning(out, end, 0, list[i]);
     }
     if list.len() < octets / 2 {
-        say::numbered(b"units from ", list.len());
-        say::say(b" on 000D: closing CR, page filling, dropped\n");
+        let numbers = [list.len()];
+        return tell::say(
+            out,
+            end,
+            tell::PEOPLE,
+            b"units from # on 000D: closing CR, page filling, dropped/",
+            &numbers,
+        );
     }
+    end
+}
+
+pub(crate) fn message(
+    out: &mut [u8],
+    at: usize,
+    job: Job,
+    ucs2: bool,
+    list: &[u8],
+    text: &[u16],
+) -> usize {
+    if ucs2 {
+        let end = put(out, at, b"alphabet UCS2\n");
+        let end = octets(out, end, list);
+        return units(out, end, text, list.len());
+    }
+    let mut unpacked = [0u8; 182];
+    let service = job.service;
+    let answer = wikuay::wikuay_unpack((service % 4) as u32, list, job.count, &mut unpacked);
+    let n = tell::within(answer.written, &unpacked);
+    let end = put(out, at, b"alphabet 7-bit\n");
+    let end = octets(out, end, list);
+    let end = septets(out, end, &unpacked[..n], text, service == asked::OLD);
+    let total = if service == asked::SMS {
+        n
+    } else if service == asked::USSD {
+        list.len() % 200 * 8 / 7
+    } else {
+        93
+    };
+    let end = rest(out, end, service, n, total);
+    spare(out, end, list, total)
 }

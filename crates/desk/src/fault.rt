@@ -1,8 +1,6 @@
-// What can be wrong with a command line, and the lines that say so.
-use crate::help;
-use crate::say;
+// What can be wrong with a request, from 1, and how it is said; 0 is nothing.
+use crate::tell;
 
-// The faults, from 1; 0 is none.
 pub(crate) const LONG: usize = 1;
 
 pub(crate) const OPTION: usize = 2;
@@ -35,17 +33,37 @@ pub(crate) const CODING: usize = 15;
 
 pub(crate) const NUMBER: usize = 16;
 
-pub(crate) const COUNT: usize = 17;
+pub(crate) const ZERO: usize = 17;
 
-// Says what is wrong and shows the argument, or the option of that slot, where there is one; then the help on the command.
-pub(crate) fn complain(fault: usize, at: usize, verb: usize) {
-    say::say(b"error: ");
-    say::part(
-        b"|
-an argument is longer than 4096 octets|
-there is no such option|
+pub(crate) const LARGE: usize = 18;
+
+pub(crate) const COUNT: usize = 19;
+
+pub(crate) const LINE: usize = 20;
+
+// No fault of the request: the program cannot answer it.
+pub(crate) const UNREAD: usize = 21;
+
+// Says what is wrong; shown with it is nothing (0), the units (1), or an option (2 and more).
+pub(crate) fn say(
+    out: &mut [u8],
+    at: usize,
+    layout: usize,
+    fault: usize,
+    shown: usize,
+    units: &[u16],
+) -> usize {
+    let quoted = if layout == tell::JSON { 1 } else { 0 };
+    let numbers = [quoted, fault, shown];
+    tell::tell(
+        out,
+        at,
+        layout,
+        b"{error: |`error`<`}{|
+what is typed is longer than 4096 octets|
+there is no such option; a text that begins with - stands behind --|
 the option has no value|
-the option or its value is given twice|
+the option is given twice|
 there is a word too many; a text of several words stands in quotes|
 no command is given|
 there is no such command|
@@ -57,21 +75,14 @@ octets and septets are typed as two hexadecimal digits each|
 units are typed as four hexadecimal digits each|
 only plain ASCII can be typed; other characters are typed as units for now, as in --units 20AC|
 a coding octet is two hexadecimal digits|
-a number is typed in decimal, without a zero in front|
+a number is typed in decimal digits|
+a number is typed without a zero in front|
+the largest number is 4294967295|
 a short message is read with its length count; give --count|
-",
-        fault,
-    );
-    if 0 < at {
-        say::say(b": ");
-        if 8 <= at && (fault == TWICE || fault == STRANGE) {
-            say::part(b"--coding|--count|--units|--room|", at - 8);
-        } else {
-            let mut word = io::buffer();
-            let n = os::arg(at, &mut word);
-            say::octets(&word[..n], say::SHOWN);
-        }
-    }
-    say::say(b"\n");
-    help::help(verb);
+the command does not stand in a line}
+{|: ~|: --coding|: --count|: --units|: --room|: --json}`/",
+        &numbers,
+        b"",
+        units,
+    )
 }

@@ -1,181 +1,423 @@
 // The commands on a service: each calls the library and tells its answer.
+use crate::asked;
+use crate::asked::Job;
 use crate::draw;
-use crate::facts;
 use crate::fault;
 use crate::help;
-use crate::job;
-use crate::job::Job;
-use crate::line;
-use crate::refused;
-use crate::say;
-use crate::value;
-use coding::Held;
-use coding::OctetRead;
-use coding::Reading;
-use demands::MessageRead;
-use demands::MessageWritten;
-use stream::Packed;
+use crate::tell;
+use answers::Answer;
+use answers::ReadAnswer;
+use names::ReadingNumbers;
+use printed::put;
 use typed::Elements;
-use words::Filled;
 
-fn packed(out: &[u8], octets: usize, count: usize) {
-    let n = line::within(octets, out);
-    say::say(b"octets ");
-    say::octets(&out[..n], say::SPELLED);
-    say::numbered(b"\ncount ", count);
-    say::say(b"\n");
+// Tells a refusal. Inside of a fact it is words in every layout.
+pub(crate) fn refused(
+    out: &mut [u8],
+    at: usize,
+    layout: usize,
+    inside: bool,
+    refusal: u32,
+    position: usize,
+) -> usize {
+    let quoted = if layout == tell::JSON && !inside {
+        1
+    } else {
+        0
+    };
+    let numbers = [quoted, refusal as usize, position, refusal as usize];
+    tell::say(
+        out,
+        at,
+        layout,
+        b"{refused # at #: |`refused`<#/`position`<#/`meaning`<`}{|
+the text is compressed|
+the coding holds no text|
+the coding has the prefix mark|
+the octets do not fit the service or the count|
+the text is over the service's size|
+a unit is not in the alphabet|
+the buffer is too short|
+the reading cannot be written under this service|
+a septet is 128 or more}`/",
+        &numbers,
+    )
+}
+
+// How what was refused is shown.
+const OF_CODING: usize = 0;
+
+const OF_OCTETS: usize = 1;
+
+const OF_SEPTETS: usize = 2;
+
+const OF_UNITS: usize = 3;
+
+const OF_TEXT: usize = 4;
+
+fn shown(out: &mut [u8], at: usize, kind: usize, octets: &[u8], units: &[u16]) -> usize {
+    let numbers = [kind];
+    tell::tell(
+        out,
+        at,
+        tell::PEOPLE,
+        b"{coding @|octets @|septets @|units %|text ~}",
+        &numbers,
+        octets,
+        units,
+    )
+}
+
+// What was refused, and a caret under the place.
+fn pointed(
+    out: &mut [u8],
+    at: usize,
+    kind: usize,
+    position: usize,
+    octets: &[u8],
+    units: &[u16],
+) -> usize {
+    let end = shown(out, at, kind, octets, units);
+    let start = put(out, end, b"\n");
+    let n = tell::within(position, octets);
+    let k = tell::within_units(position, units);
+    let place = shown(out, start, kind, &octets[..n], &units[..k]);
+    tell::blank(out, start, place);
+    put(out, place, b"^\n")
+}
+
+// A refusal, with what was refused where a person reads it. Of a message 1, 2, 3 and 8 are of its coding octet.
+fn refuse(
+    out: &mut [u8],
+    at: usize,
+    job: Job,
+    kind: usize,
+    refusal: u32,
+    position: usize,
+    octets: &[u8],
+    units: &[u16],
+) -> usize {
+    let end = refused(out, at, job.layout, false, refusal, position);
+    let one = [job.coding];
+    if job.layout != tell::PEOPLE {
+        end
+    } else if kind != OF_SEPTETS && (refusal < 4 || refusal == 8) {
+        pointed(out, end, OF_CODING, 0, &one, units)
+    } else {
+        pointed(out, end, kind, position, octets, units)
+    }
 }
 
 // The call is lent the front of the buffer, as long as the room asked for.
-fn write_into(job: Job, reading: Reading, units: &[u16], out: &mut [u8]) -> MessageWritten {
-    let n = line::within(job.room, out);
-    writer::write_message(job::service_of(job.service), reading, units, &mut out[..n])
+fn write_into(
+    service: u32,
+    reading: ReadingNumbers,
+    units: &[u16],
+    room: usize,
+    octets: &mut [u8],
+) -> Answer {
+    let n = tell::within(room, octets);
+    wikuay::wikuay_write_message(service, reading, units, &mut octets[..n])
 }
 
-fn write_as(job: Job, reading: Reading, units: &[u16], how: u8) {
-    let mut out = [0u8; 160];
-    let answer = write_into(job, reading, units, &mut out);
-    match answer {
-        MessageWritten::Done {
+fn write(out: &mut [u8], at: usize, job: Job, units: &[u16]) -> usize {
+    let mut octets = [0u8; 160];
+    let kind = if job.given & asked::UNITS != 0 {
+        OF_UNITS
+    } else {
+        OF_TEXT
+    };
+    let service = (job.service % 4) as u32;
+    let read = wikuay::wikuay_read_coding(service, job.coding);
+    let reading = read.reading;
+    if read.refusal != 0 {
+        return refuse(out, at, job, kind, read.refusal, read.position, b"", units);
+    }
+    let answer = write_into(service, reading, units, job.room, &mut octets);
+    if answer.refusal != 0 {
+        return refuse(
+            out,
+            at,
+            job,
+            kind,
+            answer.refusal,
+            answer.position,
+            b"",
+            units,
+        );
+    }
+    let k = tell::within(answer.written, &octets);
+    let numbers = [answer.count as usize, answer.coding as usize];
+    tell::tell(
+        out,
+        at,
+        job.layout,
+        b"`octets`<`@`/`count`<#/`coding`<`$`/",
+        &numbers,
+        &octets[..k],
+        units,
+    )
+}
+
+fn pack(out: &mut [u8], at: usize, job: Job, septets: &[u8]) -> usize {
+    let mut octets = [0u8; 160];
+    let none = [0u16; 1];
+    let answer = wikuay::wikuay_pack((job.service % 4) as u32, septets, &mut octets);
+    if answer.refusal != 0 {
+        return refuse(
+            out,
+            at,
+            job,
+            OF_SEPTETS,
+            answer.refusal,
+            answer.position,
+            septets,
+            &none,
+        );
+    }
+    let k = tell::within(answer.written, &octets);
+    let numbers = [answer.count as usize];
+    tell::tell(
+        out,
+        at,
+        job.layout,
+        b"`octets`<`@`/`count`<#/",
+        &numbers,
+        &octets[..k],
+        &none,
+    )
+}
+
+fn unpack(out: &mut [u8], at: usize, job: Job, octets: &[u8]) -> usize {
+    let mut septets = [0u8; 182];
+    let none = [0u16; 1];
+    let answer = wikuay::wikuay_unpack((job.service % 4) as u32, octets, job.count, &mut septets);
+    if answer.refusal != 0 {
+        return refuse(
+            out,
+            at,
+            job,
+            OF_OCTETS,
+            answer.refusal,
+            answer.position,
             octets,
-            count,
-            coding,
-        } => {
-            packed(&out, octets, count);
-            say::say(b"coding ");
-            say::octet(coding);
-            say::say(b"\n");
-        }
-        MessageWritten::Refused(refusal) => refused::text(refusal, job.coding, units, how),
+            &none,
+        );
     }
+    let k = tell::within(answer.written, &septets);
+    let numbers = [0usize];
+    tell::tell(
+        out,
+        at,
+        job.layout,
+        b"`septets`<`@`/",
+        &numbers,
+        &septets[..k],
+        &none,
+    )
 }
 
-fn write_units(job: Job, units: &[u16], how: u8) {
-    let read = coding::read_octet(job::service_of(job.service), job.coding);
-    match read {
-        OctetRead::Done(reading) => write_as(job, reading, units, how),
-        OctetRead::Refused(refusal) => refused::text(refusal, job.coding, units, how),
+fn read(out: &mut [u8], at: usize, job: Job, octets: &[u8]) -> usize {
+    let mut units = [0u16; 182];
+    let numbers = [0usize];
+    let service = (job.service % 4) as u32;
+    let answer = wikuay::wikuay_read_message(service, job.coding, job.count, octets, &mut units);
+    let reading = answer.reading;
+    if answer.refusal != 0 {
+        return refuse(
+            out,
+            at,
+            job,
+            OF_OCTETS,
+            answer.refusal,
+            answer.position,
+            octets,
+            &units,
+        );
     }
-}
-
-fn write(job: Job, slots: &[usize]) {
-    let mut units = [0u16; 4096];
-    let read = value::text_units(slots, &mut units);
-    let spelled = line::slot(slots, line::UNITS);
-    match read {
-        Elements::Done(n) => {
-            let k = line::within_units(n, &units);
-            let how = if 0 < spelled {
-                say::SPELLED
-            } else {
-                say::SHOWN
-            };
-            write_units(job, &units[..k], how);
-        }
-        Elements::Nothing => {
-            if 0 < spelled {
-                fault::complain(fault::UNITS, spelled, help::WRITE);
-            } else {
-                fault::complain(fault::ASCII, 0, help::WRITE);
-            }
-        }
-    }
-}
-
-fn pack(job: Job, septets: &[u8]) {
-    let mut out = [0u8; 160];
-    let answer = packing::pack(job::service_of(job.service), septets, &mut out);
-    match answer {
-        Packed::Done { octets, count } => packed(&out, octets, count),
-        Packed::Refused(refusal) => refused::octets(refusal, b"septets ", septets),
-    }
-}
-
-fn unpack(job: Job, octets: &[u8]) {
-    let mut out = [0u8; 182];
-    let answer = packing::unpack(job::service_of(job.service), octets, job.count, &mut out);
-    match answer {
-        Filled::Done(n) => {
-            let k = line::within(n, &out);
-            say::say(b"septets ");
-            say::octets(&out[..k], say::SPELLED);
-            say::say(b"\n");
-        }
-        Filled::Refused(refusal) => refused::octets(refusal, b"octets ", octets),
-    }
-}
-
-// The text of a message; before it the units in hexadecimal, or the drawing.
-fn answered(job: Job, reading: Reading, octets: &[u8], units: &[u16]) {
-    let held = reading.holds(job::service_of(job.service));
+    let k = tell::within_units(answer.written, &units);
     if job.verb == help::READ {
-        say::say(b"units ");
-        say::units(units, say::SPELLED);
-        say::say(b"\n");
-    } else {
-        match held {
-            Held::Septets => {
-                say::say(b"alphabet 7-bit\n");
-                draw::octets(octets);
-                draw::septets(job, octets);
-            }
-            Held::Units => {
-                say::say(b"alphabet UCS2\n");
-                draw::octets(octets);
-                draw::units(units, octets.len());
-            }
-            Held::Refused(refusal) => refused::told(refusal),
-        }
+        return tell::tell(
+            out,
+            at,
+            job.layout,
+            b"`units`<`%`/`text`<`~`/",
+            &numbers,
+            octets,
+            &units[..k],
+        );
     }
-    say::say(b"text ");
-    say::units(units, say::SHOWN);
-    say::say(b"\n");
+    let drawn = draw::message(out, at, job, reading.alphabet == 2, octets, &units[..k]);
+    tell::tell(
+        out,
+        drawn,
+        job.layout,
+        b"text ~/",
+        &numbers,
+        octets,
+        &units[..k],
+    )
 }
 
-fn read(job: Job, octets: &[u8]) {
-    let mut out = [0u16; 182];
-    let service = job::service_of(job.service);
-    let answer = reader::read_message(service, job.coding, job.count, octets, &mut out);
-    match answer {
-        MessageRead::Done { units, reading } => {
-            let k = line::within_units(units, &out);
-            answered(job, reading, octets, &out[..k]);
+// What the numbers of a reading say, field by field.
+fn fields(out: &mut [u8], at: usize, layout: usize, answer: ReadAnswer) -> usize {
+    let reading = answer.reading;
+    let notice = reading.notice as usize;
+    let kind = if notice == 0 { 0 } else { 1 + notice % 4 };
+    let numbers = [
+        reading.alphabet as usize,
+        reading.compressed as usize,
+        reading.class as usize,
+        reading.language as usize,
+        reading.deletion as usize,
+        notice / 16,
+        notice / 8,
+        kind,
+        reading.prefix as usize,
+        reading.reserved as usize,
+    ];
+    tell::say(
+        out,
+        at,
+        layout,
+        b"`alphabet`<`{7-bit|8-bit data|UCS2|WAP}`/`compressed`<`{no|yes}`/`class`<`{none|0|1|2|3|user-defined 1|user-defined 2}`/`language`<`
+{German|English|Italian|French|Spanish|Dutch|Swedish|Danish|Portuguese|Finnish|Norwegian|Greek|Turkish|Hungarian|Polish|unspecified|Czech}`/
+`deletion`<`{no|yes}`/`notice`<`{none|discard|store}{||, not active|, active|, not active|, active}{|, voicemail|, fax|, electronic mail|, other}`/
+`prefix`<`{no|yes}`/`reserved`<`{no|yes}`/",
+        &numbers,
+    )
+}
+
+// What a coding octet says, whether that holds text, and the octet that it is written as.
+fn coding(out: &mut [u8], at: usize, job: Job, octet: u8) -> usize {
+    let none = [0u16; 1];
+    let one = [octet];
+    let layout = job.layout;
+    let service = (job.service % 4) as u32;
+    let read = wikuay::wikuay_read_coding(service, octet);
+    if read.refusal != 0 {
+        let end = refused(out, at, layout, false, read.refusal, 0);
+        if layout != tell::PEOPLE {
+            return end;
         }
-        MessageRead::Refused(refusal) => refused::message(refusal, job.coding, octets),
+        return pointed(out, end, OF_CODING, 0, &one, &none);
+    }
+    let reading = read.reading;
+    let end = fields(out, at, layout, read);
+    uses(out, end, layout, service, reading)
+}
+
+// Whether a reading holds text, and the octet that it is written as.
+fn uses(out: &mut [u8], at: usize, layout: usize, service: u32, reading: ReadingNumbers) -> usize {
+    let held = wikuay::wikuay_holds_text(reading);
+    let written = wikuay::wikuay_write_coding(service, reading);
+    let holds = [held.holds as usize];
+    let octet = [
+        if written.refusal == 0 { 0 } else { 1 },
+        written.coding as usize,
+    ];
+    let end = or_refused(
+        out,
+        at,
+        layout,
+        b"`text`<`{|7-bit|UCS2}",
+        &holds,
+        held.refusal,
+    );
+    or_refused(
+        out,
+        end,
+        layout,
+        b"`written`<`{$|}",
+        &octet,
+        written.refusal,
+    )
+}
+
+// A fact, with a refusal in the place of its value where there is one.
+fn or_refused(
+    out: &mut [u8],
+    at: usize,
+    layout: usize,
+    pattern: &[u8],
+    numbers: &[usize],
+    refusal: u32,
+) -> usize {
+    let end = tell::say(out, at, layout, pattern, numbers);
+    if refusal != 0 {
+        return refused(out, end, layout, true, refusal, 0);
+    }
+    tell::say(out, end, layout, b"`/", numbers)
+}
+
+fn complain(out: &mut [u8], at: usize, job: Job, units: &[u16]) -> usize {
+    let n = tell::within_units(job.units, units);
+    let end = fault::say(out, at, job.layout, job.fault, job.shown, &units[..n]);
+    if job.layout != tell::PEOPLE {
+        return end;
+    }
+    help::help(out, end, job.verb)
+}
+
+// The octets that a text spells, and how many there are; 9999 where it spells none.
+fn octets_of(text: &[u8], octets: &mut [u8]) -> usize {
+    let mut digits = io::buffer();
+    let n = asked::clean(text, 1, &mut digits);
+    match typed::read_octets(&digits[..n], octets) {
+        Elements::Done(k) => k,
+        Elements::Nothing => 9999,
     }
 }
 
-fn on_octets(job: Job, slots: &[usize]) {
-    let mut list = [0u8; 2048];
-    let read_list = value::octets_at(slots, 2, &mut list);
-    let at = line::slot(slots, 2);
+fn on_octets(out: &mut [u8], at: usize, job: Job, text: &[u8], units: &mut [u16]) -> usize {
+    let mut octets = [0u8; 2048];
+    let n = octets_of(text, &mut octets);
+    let k = tell::within(n, &octets);
     let verb = job.verb;
-    match read_list {
-        Elements::Done(n) => {
-            let k = line::within(n, &list);
-            match verb {
-                help::CODING => {
-                    if k == 1 {
-                        facts::tell(job::service_of(job.service), list[0]);
-                    } else {
-                        fault::complain(fault::CODING, at, verb);
-                    }
-                }
-                help::PACK => pack(job, &list[..k]),
-                help::UNPACK => unpack(job, &list[..k]),
-                _ => read(job, &list[..k]),
-            }
-        }
-        Elements::Nothing => fault::complain(fault::OCTETS, at, verb),
+    let fault = if k < n {
+        fault::OCTETS
+    } else if verb == help::CODING && k != 1 {
+        fault::CODING
+    } else {
+        0
+    };
+    if 0 < fault {
+        return complain(out, at, job.wrong(fault, text, units), units);
+    }
+    match verb {
+        help::CODING => coding(out, at, job, octets[0]),
+        help::PACK => pack(out, at, job, &octets[..k]),
+        help::UNPACK => unpack(out, at, job, &octets[..k]),
+        _ => read(out, at, job, &octets[..k]),
     }
 }
 
-pub(crate) fn run(job: Job, slots: &[usize]) {
-    if 0 < job.fault {
-        fault::complain(job.fault, job.at, job.verb);
-    } else if job.verb == help::WRITE {
-        write(job, slots);
-    } else {
-        on_octets(job, slots);
+// The units of a text that is written, and how many there are; 9999 where it cannot be typed so.
+fn units_of(job: Job, text: &[u8], units: &mut [u16]) -> usize {
+    if job.given & asked::UNITS != 0 {
+        return job.units;
     }
+    if wide::first_wide(text) < text.len() {
+        return 9999;
+    }
+    asked::widen(text, units)
+}
+
+// The answer to a request.
+pub(crate) fn answer(out: &mut [u8], at: usize, job: Job, text: &[u8], units: &mut [u16]) -> usize {
+    if 0 < job.fault {
+        return complain(out, at, job, units);
+    }
+    if job.verb == help::HELP {
+        return help::help(out, at, job.topic);
+    }
+    if job.verb != help::WRITE {
+        return on_octets(out, at, job, text, units);
+    }
+    let n = units_of(job, text, units);
+    let k = tell::within_units(n, units);
+    if k < n {
+        return complain(out, at, job.fails(fault::ASCII, 0), units);
+    }
+    write(out, at, job, &units[..k])
 }

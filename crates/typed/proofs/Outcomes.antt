@@ -7,6 +7,8 @@ use Rattle.typed.proofs.digit_for.Kinds as digit-for-kinds
 use Rattle.typed.proofs.digit_for.Reads as digit-for
 use Rattle.typed.proofs.digit_of.Kinds as digit-of-kinds
 use Rattle.typed.proofs.digit_of.Reads as digit-of
+use Rattle.typed.proofs.first_other.Kinds as first-other-kinds
+use Rattle.typed.proofs.first_other.Reads as first-other
 use Rattle.typed.proofs.read_octets.Kinds as octets-kinds
 use Rattle.typed.proofs.read_octets.Reads as octets
 use Rattle.typed.proofs.read_units.Kinds as units-kinds
@@ -19,6 +21,9 @@ digit-for-unique κs a x y u v p q = p ∙ sym q
 
 pub digit-of-unique : OneAnswer digit-of-kinds.ps digit-of-kinds.r digit-of.Post
 digit-of-unique κs a x y u v p q = p ∙ sym q
+
+pub first-other-unique : OneAnswer first-other-kinds.ps first-other-kinds.r first-other.Post
+first-other-unique κs a x y u v p q = p ∙ sym q
 
 pub read-octets-unique : OneAnswer octets-kinds.ps octets-kinds.r octets.Post
 read-octets-unique κs a x y u v p q = p .0 ∙ sym (q .0)

@@ -48,8 +48,8 @@ pub fn digit_of(c: u8) -> u8
 }
 
 // The place of the first octet that is no digit of the base, or the length where there is none.
-fn first_other(text: &[u8], base: u8) -> usize
-    ensures { λ r. ⌜ r ≡ firstPlace (λ (c : ℕ). leb base (digitOf c)) (now (text .entry)) ⌝ }
+pub fn first_other(text: &[u8], base: u8) -> usize
+    ensures answer { λ r. ⌜ r ≡ firstPlace (λ (c : ℕ). leb base (digitOf c)) (now (text .entry)) ⌝ }
 {
     let mut i: usize = 0;
     while i < text.len() {

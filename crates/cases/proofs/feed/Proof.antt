@@ -1,5 +1,5 @@
--- Each turn takes one octet.
-use Prim.Native.Nat.{_-_}
+-- The place is at most the length, and what is left of it falls. Assumes nothing.
+use Prim.Native.Nat.{_-_, _≤_}
 use mathlib.Core.Path.{_≡_}
 use lib.ListN.{length}
 use borrow.Author.Needs.{needs}
@@ -7,10 +7,10 @@ use Rattle.cases.proofs.feed.Statement.{statement}
 use Rattle.cases.proofs.feed.Tie as tie
 
 abbrev Inv-loop : tie.InvT-loop
-Inv-loop chunk line₀ came₀ t₀ i₀ line came t i = (length line ≡ length line₀) × (length came ≡ length came₀)
+Inv-loop patterns chunk line₀ came₀ t₀ i₀ i-end line came t i = (length line ≡ length line₀) × (length came ≡ length came₀) × (i ≤ i-end)
 
 abbrev μ-loop : tie.MeasureT-loop
-μ-loop chunk line₀ came₀ t₀ i₀ line came t i = length chunk - i
+μ-loop patterns chunk line₀ came₀ t₀ i₀ i-end line came t i = i-end - i
 
 loop-holds : tie.Need-loop-holds Inv-loop μ-loop
 loop-holds c = search needs

@@ -1,4 +1,4 @@
--- Each turn counts down.
+-- The turns that are left fall. Assumes nothing.
 use mathlib.Core.Path.{_≡_}
 use lib.ListN.{length}
 use borrow.Author.Needs.{needs}
@@ -6,10 +6,10 @@ use Rattle.cases.proofs.feed_all.Statement.{statement}
 use Rattle.cases.proofs.feed_all.Tie as tie
 
 abbrev Inv-loop : tie.InvT-loop
-Inv-loop chunk₀ line₀ came₀ t₀ turns₀ chunk line came t turns = (length chunk ≡ length chunk₀) × (length line ≡ length line₀) × (length came ≡ length came₀)
+Inv-loop patterns chunk₀ line₀ came₀ t₀ turns₀ chunk line came t turns = (length chunk ≡ length chunk₀) × (length line ≡ length line₀) × (length came ≡ length came₀)
 
 abbrev μ-loop : tie.MeasureT-loop
-μ-loop chunk₀ line₀ came₀ t₀ turns₀ chunk line came t turns = turns
+μ-loop patterns chunk₀ line₀ came₀ t₀ turns₀ chunk line came t turns = turns
 
 loop-holds : tie.Need-loop-holds Inv-loop μ-loop
 loop-holds c = search needs

@@ -1,15 +1,14 @@
--- Each turn passes one character.
-use Prim.Native.Nat.{_-_}
-use lib.ListN.{length}
+-- The place is at most the length, and what is left of it falls. Assumes nothing.
+use Prim.Native.Nat.{_-_, _≤_}
 use borrow.Author.Needs.{needs}
 use Rattle.cases.proofs.label_end.Statement.{statement}
 use Rattle.cases.proofs.label_end.Tie as tie
 
 abbrev Inv-loop : tie.InvT-loop
-Inv-loop line i₀ i = Unit {0}
+Inv-loop line i₀ i-end i = i ≤ i-end
 
 abbrev μ-loop : tie.MeasureT-loop
-μ-loop line i₀ i = length line - i
+μ-loop line i₀ i-end i = i-end - i
 
 loop-holds : tie.Need-loop-holds Inv-loop μ-loop
 loop-holds c = search needs

@@ -1,26 +1,58 @@
--- `units` is safe and ends: the place is at most the length, and what is left of it falls. Assumes nothing.
-use Prim.Native.Nat.{_≤_, _-_}
+-- The place is at most the length, and what is left of it falls. Assumes nothing.
+use Prim.Native.Nat.{_-_, _≤_}
+use mathlib.Core.Path.{_≡_}
+use lib.ListN.{length}
 use borrow.Author.Needs.{needs}
 use Rattle.desk.proofs.draw.units.Statement.{statement}
 use Rattle.desk.proofs.draw.units.Tie as tie
 
 abbrev Inv-loop : tie.InvT-loop
-Inv-loop list octets i₀ t4 t5 i-end i = i ≤ i-end
+Inv-loop out₀ at list octets end₀ i₀ t10 t11 t12 i-end out end i = (length out ≡ length out₀) × (i ≤ i-end)
 
 abbrev μ-loop : tie.MeasureT-loop
-μ-loop list octets i₀ t4 t5 i-end i = i-end - i
+μ-loop out₀ at list octets end₀ i₀ t10 t11 t12 i-end out end i = i-end - i
 
 loop-holds : tie.Need-loop-holds Inv-loop μ-loop
 loop-holds c = search needs
 
-mul-unit-line : tie.Need-mul-unit-line Inv-loop μ-loop
-mul-unit-line c = search needs
+mul-meaning : tie.Need-mul-meaning Inv-loop μ-loop
+mul-meaning c = search needs
 
-shared-slice-read-unit-line : tie.Need-shared-slice-read-unit-line Inv-loop μ-loop
-shared-slice-read-unit-line c = search needs
+shared-slice-read-meaning : tie.Need-shared-slice-read-meaning Inv-loop μ-loop
+shared-slice-read-meaning c = search needs
 
-unit-line-requires : tie.Need-unit-line-requires Inv-loop μ-loop
-unit-line-requires c κs = search needs
+mul-t18 : tie.Need-mul-t18 Inv-loop μ-loop
+mul-t18 c = search needs
+
+mul-t20 : tie.Need-mul-t20 Inv-loop μ-loop
+mul-t20 c = search needs
+
+add-t21 : tie.Need-add-t21 Inv-loop μ-loop
+add-t21 c = search needs
+
+slice-aggregate-tell : tie.Need-slice-aggregate-tell Inv-loop μ-loop
+slice-aggregate-tell c = search needs
+
+slice-aggregate-tell-2 : tie.Need-slice-aggregate-tell-2 Inv-loop μ-loop
+slice-aggregate-tell-2 c = search needs
+
+slice-aggregate-tell-3 : tie.Need-slice-aggregate-tell-3 Inv-loop μ-loop
+slice-aggregate-tell-3 c = search needs
+
+slice-aggregate-tell-4 : tie.Need-slice-aggregate-tell-4 Inv-loop μ-loop
+slice-aggregate-tell-4 c = search needs
+
+tell-requires : tie.Need-tell-requires Inv-loop μ-loop
+tell-requires c κs = search needs
+
+mul-meaning-2 : tie.Need-mul-meaning-2 Inv-loop μ-loop
+mul-meaning-2 c = search needs
+
+shared-slice-read-meaning-2 : tie.Need-shared-slice-read-meaning-2 Inv-loop μ-loop
+shared-slice-read-meaning-2 c = search needs
+
+meaning-requires : tie.Need-meaning-requires Inv-loop μ-loop
+meaning-requires c κs = search needs
 
 add-i : tie.Need-add-i Inv-loop μ-loop
 add-i c = search needs
@@ -31,20 +63,23 @@ loop-less c = search needs
 loop-again : tie.Need-loop-again Inv-loop μ-loop
 loop-again c = search needs
 
-slice-aggregate-numbered : tie.Need-slice-aggregate-numbered Inv-loop μ-loop
-slice-aggregate-numbered c = search needs
-
-numbered-requires : tie.Need-numbered-requires Inv-loop μ-loop
-numbered-requires c κs = search needs
-
 slice-aggregate-say : tie.Need-slice-aggregate-say Inv-loop μ-loop
 slice-aggregate-say c = search needs
+
+slice-aggregate-say-2 : tie.Need-slice-aggregate-say-2 Inv-loop μ-loop
+slice-aggregate-say-2 c = search needs
 
 say-requires : tie.Need-say-requires Inv-loop μ-loop
 say-requires c κs = search needs
 
+same-length : tie.Need-same-length Inv-loop μ-loop
+same-length c = search needs
+
 returns : tie.Need-returns Inv-loop μ-loop
 returns c = search needs
+
+same-length-2 : tie.Need-same-length-2 Inv-loop μ-loop
+same-length-2 c = search needs
 
 returns-2 : tie.Need-returns-2 Inv-loop μ-loop
 returns-2 c = search needs
@@ -56,15 +91,26 @@ units-spec =
     Inv-loop
     μ-loop
     loop-holds
-    mul-unit-line
-    shared-slice-read-unit-line
-    unit-line-requires
+    mul-meaning
+    shared-slice-read-meaning
+    mul-t18
+    mul-t20
+    add-t21
+    slice-aggregate-tell
+    slice-aggregate-tell-2
+    slice-aggregate-tell-3
+    slice-aggregate-tell-4
+    tell-requires
+    mul-meaning-2
+    shared-slice-read-meaning-2
+    meaning-requires
     add-i
     loop-less
     loop-again
-    slice-aggregate-numbered
-    numbered-requires
     slice-aggregate-say
+    slice-aggregate-say-2
     say-requires
+    same-length
     returns
+    same-length-2
     returns-2)

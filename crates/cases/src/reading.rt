@@ -1,0 +1,127 @@
+// Readings in words (docs/CASES.md, "Readings"). A word goes by its number in the list of all of them, in the order of the fields.
+use crate::values::end_at;
+use crate::values::more;
+use crate::values::nth;
+use crate::values::part;
+use crate::values::place_of;
+use names::ReadingNumbers;
+use printed::put;
+
+// How many words there are.
+const WORDS: usize = 37;
+
+pub(crate) fn plain() -> ReadingNumbers {
+    ReadingNumbers {
+        alphabet: 0,
+        compressed: 0,
+        class: 0,
+        language: 15,
+        deletion: 0,
+        prefix: 0,
+        reserved: 0,
+        notice: 0,
+    }
+}
+
+// Whether the reading has the word. A notice is 16 of those that discard or 32 of those that store, 8 of an active one, and the kind.
+fn says(reading: ReadingNumbers, word: usize) -> bool {
+    let notice = reading.notice as usize;
+    let told = 16 <= notice;
+    match word {
+        0..=2 => reading.alphabet as usize == word + 1,
+        3 => reading.compressed == 1,
+        4..=9 => reading.class as usize == word - 3,
+        10..=24 => reading.language as usize == word - 10,
+        25 => reading.language == 16,
+        26 => reading.deletion == 1,
+        27..=28 => notice / 16 == word - 26,
+        29..=30 => told && notice / 8 % 2 == 30 - word,
+        31..=34 => told && notice % 4 == word - 31,
+        35 => reading.prefix == 1,
+        _ => reading.reserved == 1,
+    }
+}
+
+// The reading with the word; a number that is no word's changes nothing.
+fn with(reading: ReadingNumbers, word: usize) -> ReadingNumbers {
+    let mut next = reading;
+    let notice = reading.notice % 1024;
+    let n = word % 64;
+    match n {
+        0..=2 => next.alphabet = (n + 1) as u8,
+        3 => next.compressed = 1,
+        4..=9 => next.class = (n - 3) as u8,
+        10..=24 => next.language = (n - 10) as u8,
+        25 => next.language = 16,
+        26 => next.deletion = 1,
+        27 => next.notice = notice + 16,
+        28 => next.notice = notice + 32,
+        29 => next.notice = notice + 8,
+        31..=34 => next.notice = notice + (n - 31) as u16,
+        35 => next.prefix = 1,
+        36 => next.reserved = 1,
+        _ => next.compressed = reading.compressed,
+    }
+    next
+}
+
+// The words of all fields.
+fn word_of(text: &[u8], from: usize, to: usize) -> usize {
+    place_of(
+        b"8bit|ucs2|wap|compressed|class0|class1|class2|class3|user1|user2|german|english|italian|french|spanish|dutch|swedish|danish|portuguese|finnish|norwegian|greek|turkish|hungarian|polish|czech|deletion|discard|store|active|inactive|voicemail|fax|mail|other|prefix|reserved|",
+        part(text, from, to),
+    )
+}
+
+// The reading that the words say, in any order. No reading has more than ten.
+pub(crate) fn reading_of(text: &[u8]) -> ReadingNumbers {
+    let mut reading = plain();
+    let mut at: usize = 0;
+    for _ in 0..10usize {
+        let end = end_at(text, at, b'+');
+        reading = with(reading, word_of(text, at, end));
+        at = more(end);
+    }
+    reading
+}
+
+// Puts a word of the reading behind those that stand from start on, where the reading has it.
+fn put_word(
+    out: &mut [u8],
+    at: usize,
+    start: usize,
+    reading: ReadingNumbers,
+    word: usize,
+) -> usize {
+    if !says(reading, word) {
+        return at;
+    }
+    let end = put_plus(out, at, start);
+    put(
+        out,
+        end,
+        nth(
+            b"8bit|ucs2|wap|compressed|class0|class1|class2|class3|user1|user2|german|english|italian|french|spanish|dutch|swedish|danish|portuguese|finnish|norwegian|greek|turkish|hungarian|polish|czech|deletion|discard|store|active|inactive|voicemail|fax|mail|other|prefix|reserved|",
+            word,
+        ),
+    )
+}
+
+fn put_plus(out: &mut [u8], at: usize, start: usize) -> usize {
+    if at == start {
+        return at;
+    }
+    put(out, at, b"+")
+}
+
+// Puts the words of a reading, or `plain`.
+pub(crate) fn put_reading(out: &mut [u8], at: usize, reading: ReadingNumbers) -> usize {
+    let mut end = at;
+    for word in 0..WORDS {
+        end = put_word(out, end, at, reading, word);
+    }
+    if end == at {
+        return put(out, at, b"plain");
+    }
+    end
+}

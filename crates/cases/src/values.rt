@@ -1,0 +1,258 @@
+// The values of a case by the letters of a pattern: taken out of a line, and put into a buffer.
+// F, P, W and N are the numbers refusal, position, written and count, M is the room, S the service, C a coding octet, R a reading, H what is
+// held, O octets and U units. Values are taken as they come: a line is a case where they put it again, letter by letter.
+use crate::reading;
+use names::ReadingNumbers;
+use printed::put;
+use typed::Elements;
+use typed::Number;
+ghost use Rattle.io.specs.Counts.{Counts};
+
+pub(crate) struct Values {
+    pub refusal: usize,
+    pub position: usize,
+    pub written: usize,
+    pub count: usize,
+    pub room: usize,
+    pub service: usize,
+    pub coding: u8,
+    pub held: usize,
+    pub reading: ReadingNumbers,
+    // How many octets or units there are.
+    pub n: usize,
+}
+
+pub(crate) fn plain() -> Values {
+    Values {
+        refusal: 0,
+        position: 0,
+        written: 0,
+        count: 0,
+        room: 0,
+        service: 0,
+        coding: 0,
+        held: 0,
+        reading: reading::plain(),
+        n: 0,
+    }
+}
+
+// One more, up to a bound that nothing here reaches.
+pub(crate) fn more(n: usize) -> usize {
+    if n < 1000000000000000000 { n + 1 } else { n }
+}
+
+// n, or the length of the list where that is less.
+pub(crate) fn within(n: usize, list: &[u8]) -> usize
+    ensures { λ r. ⌜ Counts r (now (list .entry)) ⌝ }
+{
+    if n < list.len() { n } else { list.len() }
+}
+
+pub(crate) fn within_units(n: usize, list: &[u16]) -> usize
+    ensures { λ r. ⌜ Counts r (now (list .entry)) ⌝ }
+{
+    if n < list.len() { n } else { list.len() }
+}
+
+// The part of the text between two places, or an empty one where they are not in it.
+pub(crate) fn part(text: &[u8], from: usize, to: usize) -> &[u8] {
+    if to < from || text.len() < to {
+        return &text[..0];
+    }
+    &text[from..to]
+}
+
+// Where the part that begins at a place ends: at the next such mark or at the end of the text.
+pub(crate) fn end_at(text: &[u8], from: usize, mark: u8) -> usize {
+    for i in from..text.len() {
+        if text[i] == mark {
+            return i;
+        }
+    }
+    text.len()
+}
+
+// Whether the word has the letter at the place.
+fn has(word: &[u8], place: usize, c: u8) -> bool {
+    if place < word.len() {
+        word[place] == c
+    } else {
+        false
+    }
+}
+
+// The number of the part that is the word, from 0, or how many parts there are. A bar closes each part.
+pub(crate) fn place_of(list: &[u8], word: &[u8]) -> usize {
+    let mut before: usize = 0;
+    let mut k: usize = 0;
+    let mut alike = true;
+    for j in 0..list.len() {
+        if list[j] == b'|' {
+            if alike && k == word.len() {
+                return before;
+            }
+            before = more(before);
+            k = 0;
+            alike = true;
+        } else {
+            alike = alike && has(word, k, list[j]);
+            k = more(k);
+        }
+    }
+    before
+}
+
+// Part i of a list, from 0.
+pub(crate) fn nth(list: &[u8], i: usize) -> &[u8] {
+    let mut from: usize = 0;
+    for _ in 0..i % 64 {
+        from = more(end_at(list, from, b'|'));
+    }
+    part(list, from, end_at(list, from, b'|'))
+}
+
+fn number_of(word: &[u8]) -> usize {
+    match typed::read_number(word) {
+        Number::Is(n) => n as usize,
+        Number::Nothing => 0,
+    }
+}
+
+fn octet_of(word: &[u8]) -> u8 {
+    let mut one = [0u8; 1];
+    typed::read_octets(word, &mut one);
+    one[0]
+}
+
+fn elements(answer: Elements) -> usize {
+    match answer {
+        Elements::Done(n) => n,
+        Elements::Nothing => 0,
+    }
+}
+
+// Takes one value by its letter.
+fn take(values: Values, letter: u8, word: &[u8], octets: &mut [u8], units: &mut [u16]) -> Values {
+    let mut next = values;
+    if letter == b'O' {
+        next.n = elements(typed::read_octets(word, octets));
+        return next;
+    }
+    if letter == b'U' {
+        next.n = elements(typed::read_units(word, units));
+        return next;
+    }
+    let n = number_of(word);
+    match letter {
+        b'S' => next.service = place_of(b"sms|broadcast|ussd|old|", word),
+        b'H' => next.held = place_of(b"none|7bit|ucs2|", word),
+        b'C' => next.coding = octet_of(word),
+        b'R' => next.reading = reading::reading_of(word),
+        b'F' => next.refusal = n,
+        b'P' => next.position = n,
+        b'W' => next.written = n,
+        b'N' => next.count = n,
+        _ => next.room = if n <= 4096 { n } else { 0 },
+    }
+    next
+}
+
+// How far a line is taken.
+struct Taken {
+    at: usize,
+    values: Values,
+}
+
+// Takes the next value, where the pattern has a letter for one.
+fn step(taken: Taken, letter: u8, line: &[u8], octets: &mut [u8], units: &mut [u16]) -> Taken {
+    let values = taken.values;
+    if letter < b'A' || b'Z' < letter {
+        return taken;
+    }
+    let from = more(end_at(line, taken.at, b'='));
+    let to = end_at(line, from, 32);
+    Taken {
+        at: to,
+        values: take(values, letter, part(line, from, to), octets, units),
+    }
+}
+
+// Takes the values of a pattern from a line. Octets and units are stored at the front of their buffers.
+pub(crate) fn take_by(pattern: &[u8], line: &[u8], octets: &mut [u8], units: &mut [u16]) -> Values {
+    let mut taken = Taken {
+        at: 0,
+        values: plain(),
+    };
+    for i in 0..pattern.len() {
+        taken = step(taken, pattern[i], line, octets, units);
+    }
+    let values = taken.values;
+    values
+}
+
+pub(crate) fn put_number(out: &mut [u8], at: usize, n: usize) -> usize {
+    let mut digits = [0u8; 20];
+    let k = io::decimal(n as u64, &mut digits);
+    put(out, at, &digits[..k])
+}
+
+// Puts the first octets, or `-` for none.
+fn put_octets(out: &mut [u8], at: usize, octets: &[u8], n: usize) -> usize {
+    let k = within(n, octets);
+    if k == 0 {
+        return put(out, at, b"-");
+    }
+    printed::put_octets(out, at, &octets[..k])
+}
+
+fn put_units(out: &mut [u8], at: usize, units: &[u16], n: usize) -> usize {
+    let k = within_units(n, units);
+    if k == 0 {
+        return put(out, at, b"-");
+    }
+    printed::put_units(out, at, &units[..k])
+}
+
+// Puts one value by its letter, or any other letter. A word that is none is put as a line end, which no line has.
+fn put_value(
+    out: &mut [u8],
+    at: usize,
+    letter: u8,
+    values: Values,
+    octets: &[u8],
+    units: &[u16],
+) -> usize {
+    let one = [letter];
+    let coding = [values.coding];
+    let reading = values.reading;
+    match letter {
+        b'S' => put(out, at, nth(b"sms|broadcast|ussd|old|\n|", values.service)),
+        b'H' => put(out, at, nth(b"none|7bit|ucs2|\n|", values.held)),
+        b'C' => printed::put_octets(out, at, &coding),
+        b'R' => reading::put_reading(out, at, reading),
+        b'O' => put_octets(out, at, octets, values.n),
+        b'U' => put_units(out, at, units, values.n),
+        b'F' => put_number(out, at, values.refusal),
+        b'P' => put_number(out, at, values.position),
+        b'W' => put_number(out, at, values.written),
+        b'N' => put_number(out, at, values.count),
+        b'M' => put_number(out, at, values.room),
+        _ => put(out, at, &one),
+    }
+}
+
+// Puts the values of a pattern, and answers where they end.
+pub(crate) fn put_by(
+    out: &mut [u8],
+    pattern: &[u8],
+    values: Values,
+    octets: &[u8],
+    units: &[u16],
+) -> usize {
+    let mut end: usize = 0;
+    for i in 0..pattern.len() {
+        end = put_value(out, end, pattern[i], values, octets, units);
+    }
+    end
+}

@@ -1,0 +1,510 @@
+// What is asked: the words of a request, one after the other, up to the first fault.
+use crate::fault;
+use crate::help;
+use crate::tell;
+use printed::put;
+use typed::Elements;
+use typed::Number;
+ghost use Prim.Native.Nat.{_≤_};
+ghost use lib.ListN.{length};
+ghost use Rattle.io.specs.Counts.{Counts};
+
+// The services by their numbers, as they are typed: sms, cbs, ussd, old.
+pub(crate) const SMS: usize = 0;
+
+pub(crate) const USSD: usize = 2;
+
+pub(crate) const OLD: usize = 3;
+
+// The bits of the options in `given`.
+pub(crate) const CODING: u32 = 1;
+
+const COUNT: u32 = 2;
+
+pub(crate) const UNITS: u32 = 4;
+
+pub(crate) struct Job {
+    // What is wrong, and what is shown with it (fault::say).
+    pub fault: usize,
+    pub shown: usize,
+    // The command, the one that help is asked on, and the service.
+    pub verb: usize,
+    pub topic: usize,
+    pub service: usize,
+    // The words so far, the options so far by their bits, one more than the number of the option that waits for its value.
+    pub words: usize,
+    pub given: u32,
+    pub waiting: usize,
+    // Whether `--` ended the options, help is asked, and the text is that of standard input.
+    pub ended: bool,
+    pub helps: bool,
+    pub input: bool,
+    // The line's number, or 0 of the command line; the layout of the answer.
+    pub line: usize,
+    pub layout: usize,
+    pub coding: u8,
+    pub count: usize,
+    pub room: usize,
+    // How long the text is, and how many units there are.
+    pub len: usize,
+    pub units: usize,
+}
+
+// The units of a text, one an octet.
+pub(crate) fn widen(text: &[u8], out: &mut [u16]) -> usize {
+    for i in 0..text.len() {
+        put_unit(out, i, text[i]);
+    }
+    text.len()
+}
+
+fn put_unit(out: &mut [u16], i: usize, c: u8) {
+    if i < out.len() {
+        out[i] = c as u16;
+    }
+}
+
+// Whether the word has the letter at the place.
+fn has(word: &[u8], place: usize, c: u8) -> bool {
+    if place < word.len() {
+        word[place] == c
+    } else {
+        false
+    }
+}
+
+// The number of the part that is the word, from 0, or how many parts there are. A bar closes each part.
+fn place_of(list: &[u8], word: &[u8]) -> usize {
+    let mut before: usize = 0;
+    let mut k: usize = 0;
+    let mut alike = true;
+    for j in 0..list.len() {
+        if list[j] == b'|' {
+            if alike && k == word.len() {
+                return before;
+            }
+            before = tell::more(before);
+            k = 0;
+            alike = true;
+        } else {
+            alike = alike && has(word, k, list[j]);
+            k = tell::more(k);
+        }
+    }
+    before
+}
+
+// Whether an option begins at the place: a hyphen, and something behind it.
+fn dashed(text: &[u8], at: usize) -> bool {
+    let next = tell::more(at);
+    has(text, at, b'-') && next < text.len() && !has(text, next, b' ')
+}
+
+fn verb_of(word: &[u8]) -> usize {
+    place_of(b"write|read|coding|explain|pack|unpack|lines|help|", word)
+}
+
+// The place of the next such mark from a place on, or the length, as where all of the rest is wanted.
+fn end_at(text: &[u8], from: usize, mark: u8, rests: bool) -> usize
+    requires { ⌜ from ≤ length (now text) ⌝ }
+    ensures { λ r. ⌜ Counts r (now (text .entry)) × (from ≤ r) ⌝ }
+{
+    for i in from..text.len() {
+        if !rests && text[i] == mark {
+            return i;
+        }
+    }
+    text.len()
+}
+
+// Digits so far, and those of the present group; HEX is a group that `0x` opens and that has none yet.
+struct Cleaned {
+    n: usize,
+    group: usize,
+    last: u8,
+}
+
+const HEX: usize = 4000;
+
+// Takes in one letter: a blank or a colon closes a group, whose digits are whole numbers: `mask` has the bits that their count lacks. What
+// cannot be is a digit x, which is none.
+fn clean_letter(digits: &mut [u8], so_far: Cleaned, c: u8, mask: usize) -> Cleaned {
+    let n = so_far.n;
+    let group = so_far.group;
+    let mut next = so_far;
+    next.last = c;
+    let one = [
+        match c {
+            b'a'..=b'f' => c - 32,
+            9..=13 => b' ',
+            b':' => b' ',
+            _ => c,
+        },
+    ];
+    if one[0] == b' ' {
+        next.group = 0;
+        if group == HEX || group & mask != 0 {
+            next.n = put(digits, n, b"x");
+        }
+        return next;
+    }
+    if c | 32 == b'x' && group == 1 && so_far.last == b'0' && 0 < n {
+        next.n = n - 1;
+        next.group = HEX;
+        return next;
+    }
+    next.n = put(digits, n, &one);
+    next.group = tell::more(group);
+    next
+}
+
+// The digits of a text, without what parts them and in upper case; answers how many there are.
+pub(crate) fn clean(text: &[u8], mask: usize, digits: &mut [u8]) -> usize
+    ensures { λ r. ⌜ Counts r (now (digits .exit)) ⌝ }
+{
+    let mut so_far = Cleaned {
+        n: 0,
+        group: 0,
+        last: 0,
+    };
+    for i in 0..text.len() {
+        so_far = clean_letter(digits, so_far, text[i], mask);
+    }
+    let end = clean_letter(digits, so_far, b' ', mask);
+    tell::within(end.n, digits)
+}
+
+impl Job {
+    // A fault that the word is shown with.
+    pub(crate) fn wrong(self, fault: usize, word: &[u8], units: &mut [u16]) -> Job {
+        let mut next = self;
+        next.fault = fault;
+        next.shown = 1;
+        next.units = widen(word, units);
+        next
+    }
+
+    // A fault that an option is shown with, or nothing.
+    pub(crate) fn fails(self, fault: usize, shown: usize) -> Job {
+        let mut next = self;
+        next.fault = fault;
+        next.shown = shown;
+        next
+    }
+
+    // The value of --count or --room.
+    fn number(self, option: usize, word: &[u8], units: &mut [u16]) -> Job {
+        let mut next = self;
+        match typed::read_number(word) {
+            Number::Is(n) => {
+                if option == 1 {
+                    next.count = n as usize;
+                } else {
+                    next.room = n as usize;
+                }
+                next
+            }
+            Number::Nothing => {
+                if word.len() == 0 {
+                    self.fails(fault::VALUE, 2 + option % 8)
+                } else if typed::first_other(word, 10) < word.len() {
+                    self.wrong(fault::NUMBER, word, units)
+                } else if word[0] == b'0' {
+                    self.wrong(fault::ZERO, word, units)
+                } else {
+                    self.wrong(fault::LARGE, word, units)
+                }
+            }
+        }
+    }
+
+    // The value of an option by its number: --coding, --count, --units, --room.
+    fn value(self, option: usize, word: &[u8], units: &mut [u16]) -> Job {
+        let mut next = self;
+        next.waiting = 0;
+        if option == 1 || option == 3 {
+            return next.number(option, word, units);
+        }
+        let mut digits = io::buffer();
+        if option == 0 {
+            let mut one = [0u8; 1];
+            let n = clean(word, 1, &mut digits);
+            if n != 2 {
+                return next.wrong(fault::CODING, word, units);
+            }
+            match typed::read_octets(&digits[..n], &mut one) {
+                Elements::Done(_) => {
+                    next.coding = one[0];
+                    return next;
+                }
+                Elements::Nothing => return next.wrong(fault::CODING, word, units),
+            }
+        }
+        let n = clean(word, 3, &mut digits);
+        match typed::read_units(&digits[..n], units) {
+            Elements::Done(k) => {
+                next.units = k;
+                next
+            }
+            Elements::Nothing => next.wrong(fault::UNITS, word, units),
+        }
+    }
+
+    // One more option.
+    fn option(self, word: &[u8], units: &mut [u16]) -> Job {
+        let mut next = self;
+        let n = end_at(word, 0, b'=', false);
+        let option = place_of(
+            b"--coding|--count|--units|--room|--json|--help|-h|--|",
+            &word[..n],
+        );
+        let whole = n == word.len();
+        if 7 < option || (4 <= option && !whole) {
+            return self.wrong(fault::OPTION, word, units);
+        }
+        if 4 < option {
+            next.helps = self.helps || option < 7;
+            next.ended = option == 7;
+            return next;
+        }
+        let bit = 1u32 << option;
+        if self.given & bit != 0 {
+            return self.fails(fault::TWICE, 2 + option);
+        }
+        next.given = self.given | bit;
+        if option == 4 {
+            if 0 < self.line {
+                return self.fails(fault::STRANGE, 6);
+            }
+            next.layout = tell::JSON;
+            return next;
+        }
+        if word.len() <= n {
+            next.waiting = option + 1;
+            return next;
+        }
+        next.value(option, &word[n + 1..], units)
+    }
+
+    // One more word of the text or of the octets.
+    fn text(self, word: &[u8], text: &mut [u8], units: &mut [u16]) -> Job {
+        let mut next = self;
+        let first = self.words == 3;
+        if self.input || (self.verb == help::WRITE && !first) {
+            return self.wrong(fault::MANY, word, units);
+        }
+        let from = tell::gap(text, self.len, first, b' ');
+        next.len = put(text, from, word);
+        next.input = self.line == 0 && !self.ended && word.len() == 1 && has(word, 0, b'-');
+        if 4096 < next.len {
+            return self.fails(fault::LONG, 0);
+        }
+        next
+    }
+
+    // One more word that is no option.
+    fn word(self, word: &[u8], text: &mut [u8], units: &mut [u16]) -> Job {
+        let mut next = self;
+        let words = self.words;
+        let verb = self.verb;
+        next.words = tell::more(words);
+        if words == 0 && word.len() == 0 {
+            return self.fails(fault::NO_VERB, 0);
+        }
+        if words == 0 {
+            let named = verb_of(word);
+            next.verb = named;
+            if named == help::VERBS {
+                return self.wrong(fault::VERB, word, units);
+            }
+            if 0 < self.line && (named == help::EXPLAIN || help::UNPACK < named) {
+                return self.wrong(fault::LINE, word, units);
+            }
+            return next;
+        }
+        if verb == help::LINES || (verb == help::HELP && 1 < words) {
+            return self.wrong(fault::MANY, word, units);
+        }
+        if verb == help::HELP {
+            next.topic = verb_of(word);
+            if next.topic == help::VERBS {
+                return self.wrong(fault::VERB, word, units);
+            }
+            return next;
+        }
+        if words == 1 {
+            next.service = place_of(b"sms|cbs|ussd|old|", word);
+            if OLD < next.service {
+                return self.wrong(fault::SERVICE, word, units);
+            }
+            return next;
+        }
+        next.text(word, text, units)
+    }
+
+    // A word behind a fault: it may still say how the fault is told.
+    fn answers_so(self, word: &[u8]) -> Job {
+        let mut next = self;
+        if self.line == 0 && !self.ended && place_of(b"--json|", word) == 0 {
+            next.layout = tell::JSON;
+        }
+        next
+    }
+
+    // One more word of the request; in a line an empty one is none, unless it is the text.
+    fn takes(self, word: &[u8], text: &mut [u8], units: &mut [u16]) -> Job {
+        let waiting = self.waiting;
+        if word.len() == 0 && 0 < self.line && !self.rests() {
+            self
+        } else if 0 < self.fault {
+            self.answers_so(word)
+        } else if 0 < waiting {
+            if has(word, 0, b'-') {
+                self.fails(fault::VALUE, 1 + waiting % 8)
+            } else {
+                self.value(waiting - 1, word, units)
+            }
+        } else if !self.ended && dashed(word, 0) {
+            self.option(word, units)
+        } else {
+            self.word(word, text, units)
+        }
+    }
+
+    // Whether the text of a line comes next.
+    fn rests(self) -> bool {
+        0 < self.line && self.verb == help::WRITE && self.words == 2 && self.waiting == 0
+    }
+
+    // Where the word that begins at a place ends. The text of a line is all of its rest, unless it is an option.
+    fn word_end(self, request: &[u8], at: usize) -> usize
+        requires { ⌜ at ≤ length (now request) ⌝ }
+        ensures { λ r. ⌜ Counts r (now (request .entry)) × (at ≤ r) ⌝ }
+    {
+        let mark = if self.line == 0 { 0 } else { b' ' };
+        let rests = self.rests() && (self.ended || !dashed(request, at));
+        end_at(request, at, mark, rests)
+    }
+
+    // The options that the command takes.
+    fn taken(self) -> u32 {
+        let verb = self.verb;
+        match verb {
+            help::WRITE => 29,
+            help::READ => 19,
+            help::EXPLAIN => 3,
+            help::UNPACK => 18,
+            help::HELP => 0,
+            _ => 16,
+        }
+    }
+
+    // What does not suit the command, 16 times, and what is shown with it; 0 is nothing.
+    fn misfit(self) -> usize {
+        let verb = self.verb;
+        let given = self.given;
+        let odd = given & (31 - self.taken() % 32);
+        let counts = verb == help::READ || verb == help::EXPLAIN || verb == help::UNPACK;
+        if 0 < self.waiting {
+            fault::VALUE * 16 + 1 + self.waiting % 8
+        } else if self.helps {
+            0
+        } else if self.words == 0 {
+            fault::NO_VERB * 16
+        } else if odd != 0 {
+            fault::STRANGE * 16 + 2 + (u32::trailing_zeros(odd) % 8) as usize
+        } else if help::UNPACK < verb {
+            0
+        } else if self.words < 2 {
+            fault::NO_SERVICE * 16
+        } else if given & UNITS != 0 && 2 < self.words {
+            fault::MANY * 16 + 1
+        } else if given & UNITS == 0 && self.words < 3 {
+            fault::MISSING * 16
+        } else if counts && self.service == SMS && given & COUNT == 0 {
+            fault::COUNT * 16
+        } else {
+            0
+        }
+    }
+
+    // The whole request: whether its words and options suit the command, and the values that were not given. A coding that is not given is
+    // the service's octet of plain 7-bit text.
+    fn settled(self, text: &[u8], units: &mut [u16]) -> Job {
+        let misfit = self.misfit();
+        let n = tell::within(self.len, text);
+        if 0 < self.fault {
+            return self;
+        }
+        if misfit == fault::MANY * 16 + 1 {
+            return self.wrong(fault::MANY, &text[..n], units);
+        }
+        if 0 < misfit {
+            return self.fails(misfit / 16, misfit % 16);
+        }
+        self.filled()
+    }
+
+    // The request with the values that were not given.
+    fn filled(self) -> Job {
+        let mut next = self;
+        if self.helps {
+            next.topic = if self.verb == help::HELP {
+                self.topic
+            } else {
+                self.verb
+            };
+            next.verb = help::HELP;
+            next.layout = tell::PEOPLE;
+        }
+        if self.given & CODING == 0 && (self.service == 1 || self.service == USSD) {
+            next.coding = 15;
+        }
+        next
+    }
+}
+
+// A request of which nothing is read yet.
+fn begun(line: usize, layout: usize, long: bool) -> Job {
+    Job {
+        fault: if long { fault::LONG } else { 0 },
+        shown: 0,
+        verb: help::VERBS,
+        topic: help::VERBS,
+        service: 0,
+        words: 0,
+        given: 0,
+        waiting: 0,
+        ended: false,
+        helps: false,
+        input: false,
+        line: line,
+        layout: layout,
+        coding: 0,
+        count: 0,
+        room: 4096,
+        len: 0,
+        units: 0,
+    }
+}
+
+// Reads a request: words with an octet 0 between them, or in a line with blanks, where the text of write is the rest of it as it is.
+pub(crate) fn read(
+    request: &[u8],
+    line: usize,
+    layout: usize,
+    text: &mut [u8],
+    units: &mut [u16],
+) -> Job {
+    let mut job = begun(line, layout, 0 < line && 4096 < request.len());
+    if 65535 < request.len() {
+        return job.fails(fault::LONG, 0);
+    }
+    let mut at: usize = 0;
+    while at <= request.len() {
+        let end = job.word_end(request, at);
+        job = job.takes(&request[at..end], text, units);
+        at = end + 1;
+    }
+    job.settled(text, units)
+}
