@@ -23,11 +23,6 @@ STACK_OCTETS = 1024
 # From this length on the library is at least as fast as the plain loop. Eight units with an accented one are tested in vain, and lose a tenth.
 FROM = 8
 FROM_ACCEPTED = 9
-# A text of extension letters alone is read by the table, and each septet is judged before a unit is stored. Below this length it may cost more than the
-# plain loop by this factor.
-EXTENSION = ("extension", "euro")
-FROM_EXTENSION = 20
-SHORT_EXTENSION = 8 / 7
 MOST_LINES = 250
 # What the archive may ask of its caller's C library: plain memory, and no storage.
 MAY_ASK = {"memcpy", "memmove", "memset", "memcmp", "bcmp"}
@@ -74,8 +69,6 @@ def broken_by_figures(rows, timed):
                 hold(f"{name}: a refusal against the accepted text", r.cost, accepted)
         elif r.service in FULL and r.length >= (FROM_ACCEPTED if r.text == ACCEPTED else FROM):
             plain = cost.get(key + ("plain",))
-            if plain and r.text in EXTENSION and r.length < FROM_EXTENSION:
-                plain *= SHORT_EXTENSION
             # The spread of a time is not a fault: a tenth is allowed there.
             hold(f"{name}: against the plain loop", r.cost, plain and plain * (1.1 if timed else 1))
         if not timed and r.text == "letters" and r.length == FULL.get(r.service):

@@ -12,13 +12,14 @@ ENUMS = ("Alphabet", "Class", "Language", "Notice")
 FORMS = [
     ("a struct by value whose fields are enums", "coding", "pub struct Reading",
      [rf"\b{name.lower()}: {name}\b" for name in ENUMS], [r"&"]),
-    *[("fields are enums", "coding", f"pub enum {name}", [r"^    [A-Z]\w*"], [r"&"]) for name in ENUMS],
+    *[("fields are enums", "fields", f"pub enum {name}", [r"^    [A-Z]\w*"], [r"&"]) for name in ENUMS],
     ("methods of the reading by value: write itself", "coding", "pub fn write(self,", [r"-> OctetWritten"], [r"&self", r"mut self"]),
     ("answer whether it holds text", "coding", "pub fn holds(self", [r"-> Held"], [r"&self", r"mut self"]),
     ("hand back a changed copy", "coding", "pub fn with_alphabet(self,", [r"-> (Self|Reading)"], [r"&self"]),
     ("packing by shifts and masks", "groups", "pub fn squeeze(", [r"<<", r">>", r" & "], [r" \* ", r" / ", r" % "]),
     ("unpacking by shifts and masks", "groups", "pub fn stretch(", [r"<<", r">>", r" & "], [r" \* ", r" / ", r" % "]),
-    ("a [13; 93] array, its front overwritten by the text before packing", "packing", "pub(crate) fn page_of(", [r"\[13u8; 93\]", r"\[\w+\] = "], [r"= 13;"]),
+    ("packing by shifts and masks: what whole groups leave over", "groups", "pub fn left_over(", [r"<<", r" & "], [r" / "]),
+    ("a [13; 93] array, its front overwritten by the text before packing", "closing", "pub fn page_of(", [r"\[13u8; 93\]", r"\[\w+\] = "], [r"= 13;"]),
     ("an array of 88 octets goes in and out by value", "pages", "pub fn build_page(", [r"\[u8; 88\]"], [r"&mut \[u8; 88\]"]),
     ("the meter's small struct lent by &mut", "meter", "pub fn add(", [r"&mut \w+"], []),
 ]
