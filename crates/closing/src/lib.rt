@@ -1,7 +1,7 @@
 // What a service adds to the septets of a text and drops from them, and what fits it: the page, and what numbers and the last septets decide.
 ghost use mathlib.Core.Path.{_≡_};
 ghost use lib.ListN.{length, take};
-ghost use Rattle.words.specs.Closing.{withoutClosing};
+ghost use Rattle.lists.specs.Closing.{withoutClosing};
 ghost use Rattle.stream.specs.Pages.{page};
 ghost use Rattle.stream.specs.SeptetCalls.{septetsFit, travels};
 ghost use Rattle.stream.specs.UssdPacking.{addsCr};

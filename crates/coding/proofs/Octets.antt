@@ -5,8 +5,8 @@ use mathlib.Core.Bool.{Bool}
 use Prim.Native.Nat.{ℕ, _<_}
 use lib.ListN.{length}
 use lib.Dec.{T, eqb, eqb→eq}
-use Rattle.words.specs.Bits.{bitOf, gather, bitsOf}
-use Rattle.words.proofs.Tests.{everyBelow, every-below}
+use Rattle.lists.specs.Bits.{bitOf, gather, bitsOf}
+use Rattle.lists.proofs.Tests.{everyBelow, every-below}
 use Rattle.coding.specs.declared.Reading.{Reading}
 use Rattle.coding.specs.OctetRead.{classIn, discardIn, storeIn, generalReading, noticeReading, lastReading, readShort, readPage}
 use Rattle.keys.specs.Keys.{alphabetDigit, classDigit, languageDigit, generalKey, noticeKey, lastKey, shortKey, pageKey}

@@ -10,8 +10,8 @@ use Rattle.words.specs.declared.Refusal.the-variants.{NoText}
 use Rattle.coding.specs.declared.OctetRead.the-variants.{Done, Refused}
 use Rattle.coding.specs.Readings.{unmentioned}
 use Rattle.coding.specs.OctetRead.{octetRules, octetReads}
-use Rattle.words.specs.Bits.{bitsOf}
-use Rattle.words.proofs.Bits.{bits-number}
+use Rattle.lists.specs.Bits.{bitsOf}
+use Rattle.lists.proofs.Bits.{bits-number}
 
 bits-3-0 : (o : ℕ) → bitsOf o 3 0 ≡ o % 16
 bits-3-0 o = bits-number o 3 0 ∙ ap (λ (x : ℕ). x % 16) (div-one o)

@@ -12,7 +12,7 @@ use Prim.Native.Nat.{ℕ, zero, suc, _≤_, _<_}
 use native.Mathlib.Omega.{arith}
 use borrow.Author.Tests.{eq-eqb}
 use lib.Dec.{T, eqb}
-use Rattle.words.specs.Lists.{firstPlace, numbersFrom}
+use Rattle.lists.specs.Lists.{firstPlace, numbersFrom}
 use Rattle.words.specs.Sizes.{isOldPage}
 use Rattle.words.specs.Judging.{when, verdict, settle}
 use Rattle.words.specs.declared.Service.{Service}
@@ -24,8 +24,8 @@ use Rattle.coding.specs.declared.OctetRead.the-variants as read
 use Rattle.coding.specs.declared.OctetWritten.{OctetWritten}
 use Rattle.coding.specs.declared.OctetWritten.the-variants.{Done, Refused}
 use Rattle.coding.specs.OctetRead.{classIn, discardIn, storeIn, generalReading, noticeReading, lastReading, readShort, readPage, readUnder, octetRules, octetReads}
-use Rattle.words.specs.Bits.{bitOf, gather, bitsOf}
-use Rattle.words.proofs.Tests.{both}
+use Rattle.lists.specs.Bits.{bitOf, gather, bitsOf}
+use Rattle.lists.proofs.Tests.{both}
 use Rattle.coding.specs.OctetWritten.{sameCoding, smallest, writeRules, octetWrites}
 use Rattle.coding.specs.Counts.{counted, counts, right}
 use Rattle.coding.proofs.Same.{same-sound, same-complete}

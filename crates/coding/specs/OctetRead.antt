@@ -10,7 +10,7 @@ use mathlib.Core.Bool.{Bool, true, cond}
 use mathlib.Core.List.{List, [], _∷_, _++_}
 use lib.Dec.{ltb, eqb}
 use lib.ListN.{getD}
-use Rattle.words.specs.Bits.{bitOf, bitsOf}
+use Rattle.lists.specs.Bits.{bitOf, bitsOf}
 use Rattle.words.specs.Judging.{Rule, when, verdict, settle, serviceRules}
 use Rattle.words.specs.declared.Service.{Service}
 use Rattle.words.specs.declared.Service.the-variants.{ShortMessage, Broadcast, Ussd, OldPage}

@@ -12,7 +12,7 @@ use borrow.Author.Tests.{le-ltb, ltb-false}
 use Rattle.words.specs.declared.Service.{Service}
 use Rattle.words.specs.declared.Refusal.the-variants.{Compressed, NoText, Prefixed, WrongLength, TooLong, Unlisted, NoRoom}
 use Rattle.words.specs.Sizes.{isOldPage}
-use Rattle.words.specs.Lists.{laid}
+use Rattle.lists.specs.Lists.{laid}
 use Rattle.words.specs.Judging.{when, Verdict, refused, accepted, verdict}
 use Rattle.words.proofs.Judging.{accepted-rule, accepted-parts, accepted-both, settle-told, settle-given}
 use Rattle.coding.specs.declared.Reading.{Reading}

@@ -5,13 +5,13 @@ use mathlib.Core.List.{List, [], _∷_, _++_}
 use Prim.Native.Nat.{ℕ, zero, suc}
 use lib.Dec.{T, eqb}
 use lib.ListN.{length, replicate}
-use Rattle.words.specs.Bits.{bitOf, gather, bitsOf}
-use Rattle.words.specs.Lists.{firstPlace, laid, numbersFrom}
-use Rattle.words.specs.Closing.{beforeKept, withoutClosing}
+use Rattle.lists.specs.Bits.{bitOf, gather, bitsOf}
+use Rattle.lists.specs.Lists.{firstPlace, laid, numbersFrom}
+use Rattle.lists.specs.Closing.{beforeKept, withoutClosing}
 use Rattle.words.specs.Judging.{verdict}
 use Rattle.words.specs.declared.Service.{Service}
 use Rattle.words.specs.declared.Service.the-variants.{ShortMessage, Broadcast, Ussd}
-use Rattle.words.proofs.Tests.{both}
+use Rattle.lists.proofs.Tests.{both}
 use Rattle.coding.specs.declared.Reading.{Reading}
 use Rattle.fields.specs.declared.Alphabet.the-variants.{EightBit}
 use Rattle.fields.specs.declared.Class.the-variants.{Class1}

@@ -18,8 +18,8 @@ use lib.ListN.{length, take, drop}
 use lib.Seq.{take-append-seam}
 use Rattle.words.specs.declared.Service.{Service}
 use Rattle.words.specs.declared.Service.the-variants.{ShortMessage, Broadcast, Ussd}
-use Rattle.words.specs.Lists.{laid}
-use Rattle.words.specs.Closing.{withoutClosing}
+use Rattle.lists.specs.Lists.{laid}
+use Rattle.lists.specs.Closing.{withoutClosing}
 use Rattle.words.proofs.Numbers.{number-above-0}
 use Rattle.coding.specs.declared.Reading.{Reading}
 use Rattle.coding.specs.declared.OctetRead.the-variants as octet-read

@@ -11,13 +11,13 @@ use Prim.Native.Nat.{ℕ, _<_}
 use native.Mathlib.Omega.{arith}
 use lib.Dec.{T, eqb, ltb}
 use lib.ListN.{length}
-use Rattle.words.specs.Bits.{bitOf, gather, bitsOf}
+use Rattle.lists.specs.Bits.{bitOf, gather, bitsOf}
 use Rattle.words.specs.declared.Service.the-variants.{ShortMessage, OldPage}
 use Rattle.words.specs.declared.Refusal.{Refusal}
 use Rattle.words.specs.declared.Refusal.the-variants.{Compressed, NoText, Prefixed, WrongLength, TooLong, Unlisted, NoRoom, Unwritable}
 use Rattle.words.specs.Refusals.{numberOf}
 use Rattle.words.specs.Judging.{Rule, when, Verdict, refused, accepted, verdict}
-use Rattle.words.proofs.Tests.{both, both-left, both-right, everyBelow, every-below}
+use Rattle.lists.proofs.Tests.{both, both-left, both-right, everyBelow, every-below}
 use Rattle.words.proofs.Judging.{settle-given}
 use Rattle.coding.specs.declared.Reading.{Reading}
 use Rattle.coding.specs.Readings.{unmentioned, reservedReading}

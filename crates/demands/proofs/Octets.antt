@@ -11,7 +11,7 @@ use borrow.Author.Tests.{ltb-false}
 use Rattle.words.specs.declared.Service.{Service}
 use Rattle.words.specs.declared.Service.the-variants.{ShortMessage, Broadcast, Ussd}
 use Rattle.words.specs.Sizes.{mostSeptets, mostUnits}
-use Rattle.words.specs.Closing.{withoutClosing}
+use Rattle.lists.specs.Closing.{withoutClosing}
 use Rattle.coding.specs.declared.Reading.{Reading}
 use Rattle.coding.specs.declared.OctetRead.the-variants as octet-read
 use Rattle.coding.specs.OctetRead.{octetReads}

@@ -17,7 +17,7 @@ use Rattle.words.specs.declared.Filled.{Filled}
 use Rattle.words.specs.declared.Filled.the-variants as filled
 use Rattle.words.specs.Refusals.{numberOf, positionOf}
 use Rattle.words.specs.Answers.{filledNumber, filledPosition, filledWritten}
-use Rattle.words.specs.Lists.{laid}
+use Rattle.lists.specs.Lists.{laid}
 use Rattle.words.specs.Judging.{Rule, Verdict, refused, accepted, verdict, settle}
 use Rattle.words.proofs.Judging.{settle-told}
 use Rattle.coding.specs.declared.Reading.{Reading}

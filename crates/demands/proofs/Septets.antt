@@ -17,11 +17,11 @@ use Rattle.words.specs.declared.Refusal.{Refusal}
 use Rattle.words.specs.declared.Refusal.the-variants.{Unlisted, TooLong, Unwritable}
 use Rattle.words.specs.declared.Filled.the-variants.{Done, Refused}
 use Rattle.words.specs.Sizes.{mostSeptets, isOldPage}
-use Rattle.words.specs.Bits.{bitOf, gather}
-use Rattle.words.specs.Lists.{firstWide, laid}
+use Rattle.lists.specs.Bits.{bitOf, gather}
+use Rattle.lists.specs.Lists.{firstWide, laid}
 use Rattle.words.specs.Judging.{when, Verdict, refused, accepted, verdict, settle}
-use Rattle.words.proofs.Below.{Below, below-take}
-use Rattle.words.proofs.Places.{place-none}
+use Rattle.lists.proofs.Below.{Below, below-take}
+use Rattle.lists.proofs.Places.{place-none}
 use Rattle.letters.specs.declared.Gathered.{Gathered}
 use Rattle.letters.specs.Writing.{septetsOf as septetsOf′, firstUnlisted, gatheredAs}
 use Rattle.letters.specs.Reading.{textOf, oldTextOf, readAs, textRules, textAnswers, textLeaves}

@@ -12,7 +12,7 @@ use Rattle.words.specs.declared.Refusal.{Refusal}
 use Rattle.words.specs.declared.Refusal.the-variants.{Unwritable}
 use Rattle.words.specs.declared.Filled.the-variants as filled
 use Rattle.words.specs.Sizes.{isOldPage}
-use Rattle.words.specs.Lists.{laid}
+use Rattle.lists.specs.Lists.{laid}
 use Rattle.words.specs.Judging.{Rule, when, Verdict, refused, accepted, verdict, settle}
 use Rattle.words.proofs.Judging.{verdict-refused-first, verdict-accepted-first, settle-told, settle-given}
 use Rattle.coding.specs.declared.Reading.{Reading}

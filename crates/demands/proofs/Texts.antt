@@ -8,11 +8,11 @@ use native.Mathlib.Decide.{ℕ-discrete}
 use native.Mathlib.Omega.{arith}
 use lib.ListN.{length, getD, length-append}
 use lib.Seq.{getD-append-add}
-use Rattle.words.specs.Lists.{firstPlace}
-use Rattle.words.specs.Closing.{withoutClosing}
-use Rattle.words.proofs.Closing.{closing-one, closing-other, closing-filled}
-use Rattle.words.proofs.Ends.{EndsIn, by-last, last-unique}
-use Rattle.words.proofs.Places.{place-most}
+use Rattle.lists.specs.Lists.{firstPlace}
+use Rattle.lists.specs.Closing.{withoutClosing}
+use Rattle.lists.proofs.Closing.{closing-one, closing-other, closing-filled}
+use Rattle.lists.proofs.Ends.{EndsIn, by-last, last-unique}
+use Rattle.lists.proofs.Places.{place-most}
 use Rattle.letters.specs.Writing.{septetsIn, listedAs, isUnlisted, firstUnlisted, septetsOf}
 use Rattle.letters.proofs.Theorems.{Codable, codable-first, codable-rest, cr-listed, septets-injective, septets-closing, septets-cr-iff}
 use Rattle.stream.specs.UssdPacking.{last}

@@ -16,7 +16,7 @@ use Prim.Native.Nat.{ℕ, _%_, _<_, _≤_}
 use lib.ListN.{length, take}
 use Rattle.words.specs.declared.Service.{Service}
 use Rattle.words.specs.Sizes.{isOldPage}
-use Rattle.words.specs.Lists.{laid}
+use Rattle.lists.specs.Lists.{laid}
 use Rattle.coding.specs.declared.Reading.{Reading}
 use Rattle.coding.specs.declared.OctetRead.the-variants as octet-read
 use Rattle.coding.specs.OctetRead.{octetReads}

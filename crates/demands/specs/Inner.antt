@@ -9,7 +9,7 @@ use lib.ListN.{length}
 use Rattle.words.specs.declared.Service.{Service}
 use Rattle.words.specs.declared.Filled.{Filled}
 use Rattle.words.specs.declared.Filled.the-variants as filled
-use Rattle.words.specs.Lists.{laid}
+use Rattle.lists.specs.Lists.{laid}
 use Rattle.words.specs.Judging.{verdict, settle}
 use Rattle.stream.specs.SeptetCalls.{travels}
 use Rattle.stream.specs.declared.Packed.{Packed}

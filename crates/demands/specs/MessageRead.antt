@@ -19,7 +19,7 @@ use Rattle.words.specs.declared.Refusal.the-variants.{WrongLength, NoRoom}
 use Rattle.words.specs.declared.Filled.{Filled}
 use Rattle.words.specs.declared.Filled.the-variants as filled
 use Rattle.words.specs.Sizes.{isOldPage}
-use Rattle.words.specs.Lists.{laid}
+use Rattle.lists.specs.Lists.{laid}
 use Rattle.words.specs.Judging.{Rule, when, verdict, settle, serviceRules}
 use Rattle.coding.specs.declared.Reading.{Reading}
 use Rattle.coding.specs.OctetRead.{octetRules, readUnder}

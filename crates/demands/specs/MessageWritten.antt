@@ -18,7 +18,7 @@ use lib.ListN.{length}
 use Rattle.words.specs.declared.Service.{Service}
 use Rattle.words.specs.declared.Refusal.the-variants.{Unlisted, TooLong, NoRoom, Unwritable}
 use Rattle.words.specs.Sizes.{mostSeptets, mostUnits, isOldPage}
-use Rattle.words.specs.Lists.{laid}
+use Rattle.lists.specs.Lists.{laid}
 use Rattle.words.specs.Judging.{Rule, when, verdict, settle}
 use Rattle.coding.specs.declared.Reading.{Reading}
 use Rattle.coding.specs.OctetWritten.{smallest, writeRules as codingRules}

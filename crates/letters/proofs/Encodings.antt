@@ -9,9 +9,9 @@ use native.Mathlib.Decide.{decLe}
 use native.Mathlib.Omega.{arith}
 use lib.ListN.{length, getD, take, drop, set, length-append, length-take, take-append-drop}
 use lib.Seq.{drop-cons, take-suc, take-all, take-take, take-add, take-append-le, set-at, length-take-le}
-use Rattle.words.specs.Lists.{laid}
-use Rattle.words.proofs.Laid.{laid-length, laid-over}
-use Rattle.words.proofs.Places.{Passed, passed-none, passed-more, passed-over, place-most}
+use Rattle.lists.specs.Lists.{laid}
+use Rattle.lists.proofs.Laid.{laid-length, laid-over}
+use Rattle.lists.proofs.Places.{Passed, passed-none, passed-more, passed-over, place-most}
 use Rattle.letters.specs.declared.Listed.{Listed}
 use Rattle.letters.specs.declared.Listed.the-variants.{Main, Extension}
 use Rattle.letters.specs.declared.Encoded.{Encoded}

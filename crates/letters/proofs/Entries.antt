@@ -11,8 +11,8 @@ use native.Mathlib.Omega.{arith}
 use lib.Dec.{T, eqb, ltb, eqb→eq}
 use lib.ListN.{length, List·getD-eq-default}
 use borrow.Author.Tests.{lt-ltb, le-ltb, ne-eqb, ltb-false}
-use Rattle.words.specs.Lists.{firstPlace, numbersFrom}
-use Rattle.words.proofs.Tests.{everyEntry, every-entry, every-below}
+use Rattle.lists.specs.Lists.{firstPlace, numbersFrom}
+use Rattle.lists.proofs.Tests.{everyEntry, every-entry, every-below}
 use Rattle.letters.specs.declared.Listed.{Listed}
 use Rattle.letters.specs.declared.Listed.the-variants.{Unlisted, Main, Extension}
 use Rattle.letters.specs.Tables.{mainTable, extension, codes, units, among, escape, beside}

@@ -7,7 +7,7 @@ use lib.Dec.{T}
 use Rattle.words.specs.declared.Filled.the-variants.{Refused}
 use Rattle.words.specs.declared.Refusal.the-variants.{Unlisted}
 use Rattle.words.specs.Judging.{verdict}
-use Rattle.words.specs.Lists.{firstPlace}
+use Rattle.lists.specs.Lists.{firstPlace}
 use Rattle.letters.specs.declared.Listed.the-variants.{Main}
 use Rattle.letters.specs.Tables.{Pair, mainTable, extension, among, beside}
 use Rattle.letters.specs.Reading.{unitIn, afterEscapeIn}

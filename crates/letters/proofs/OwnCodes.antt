@@ -13,10 +13,10 @@ use lib.Seq.{length-take-le, take-at}
 use native.Mathlib.Decide.{decLe}
 use borrow.Author.Count.{below-more}
 use borrow.Author.Tests.{le-ltb, lt-leb}
-use Rattle.words.specs.Lists.{firstPlace, laid}
-use Rattle.words.proofs.Places.{Passed, passed-none, passed-more}
-use Rattle.words.proofs.Laid.{Laying, laid-length, laid-over}
-use Rattle.words.proofs.Tests.{both, both-left, both-right, everyBelow, every-below}
+use Rattle.lists.specs.Lists.{firstPlace, laid}
+use Rattle.lists.proofs.Places.{Passed, passed-none, passed-more}
+use Rattle.lists.proofs.Laid.{Laying, laid-length, laid-over}
+use Rattle.lists.proofs.Tests.{both, both-left, both-right, everyBelow, every-below}
 use Rattle.letters.specs.declared.Listed.the-variants.{Main}
 use Rattle.letters.specs.Tables.{default, escape, mainTable, extension, among, beside}
 use Rattle.letters.specs.Writing.{septetsIn, listedIn, listedAs, septetsOf}

@@ -22,9 +22,9 @@ use native.Mathlib.Omega.{arith}
 use lib.Dec.{T}
 use lib.ListN.{length, getD, replicate}
 use lib.Seq.{take-all}
-use Rattle.words.specs.Lists.{firstPlace}
-use Rattle.words.proofs.Below.{Below}
-use Rattle.words.proofs.Ends.{EndsIn}
+use Rattle.lists.specs.Lists.{firstPlace}
+use Rattle.lists.proofs.Below.{Below}
+use Rattle.lists.proofs.Ends.{EndsIn}
 use Rattle.letters.specs.declared.Listed.the-variants.{Main, Extension}
 use Rattle.letters.specs.Tables.{default, escape, mainTable, extension, units, codes, among}
 use Rattle.letters.specs.Writing.{listedAs, septetsFor, septetsOf, isUnlisted, firstUnlisted}

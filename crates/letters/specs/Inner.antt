@@ -15,7 +15,7 @@ use mathlib.Core.Bool.{Bool}
 use mathlib.Core.List.{List, [], _∷_}
 use lib.Dec.{ltb}
 use lib.ListN.{length, getD, take, drop}
-use Rattle.words.specs.Lists.{laid}
+use Rattle.lists.specs.Lists.{laid}
 use Rattle.words.specs.declared.Refusal.the-variants.{Unlisted, TooLong}
 use Rattle.words.specs.Judging.{Rule, when}
 use Rattle.letters.specs.declared.Encoded.{Encoded}

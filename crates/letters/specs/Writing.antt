@@ -21,7 +21,7 @@ use mathlib.Core.Bool.{Bool, true, false, cond}
 use mathlib.Core.List.{List, [], _∷_, _++_}
 use lib.Dec.{ltb}
 use lib.ListN.{length, replicate}
-use Rattle.words.specs.Lists.{firstPlace, laid}
+use Rattle.lists.specs.Lists.{firstPlace, laid}
 use Rattle.words.specs.Judging.{Rule, when, verdict, settle}
 use Rattle.words.specs.declared.Filled.{Filled}
 use Rattle.words.specs.declared.Filled.the-variants.{Done, Refused}

@@ -12,7 +12,7 @@ use lib.ListN.{getD}
 use borrow.Author.Tests.{ltb-true, ltb-false, lt-ltb, eqb-true}
 use Rattle.words.specs.declared.Service.{Service}
 use Rattle.words.specs.declared.Service.the-variants.{ShortMessage, Broadcast, Ussd, OldPage}
-use Rattle.words.proofs.Tests.{and-left, and-right, everyBelow, every-below}
+use Rattle.lists.proofs.Tests.{and-left, and-right, everyBelow, every-below}
 use Rattle.fields.specs.declared.Alphabet.the-variants.{SevenBit}
 use Rattle.fields.specs.declared.Class.the-variants.{Unset}
 use Rattle.fields.specs.declared.Language.the-variants.{German}

@@ -8,8 +8,8 @@ use native.Mathlib.Omega.{arith}
 use native.Mathlib.Decide.{decLe}
 use lib.Dec.{T}
 use lib.ListN.{getD}
-use Rattle.words.specs.Lists.{firstPlace, numbersFrom}
-use Rattle.words.proofs.Places.{place-before, place-holds, place-most, numbers-at, numbers-length}
+use Rattle.lists.specs.Lists.{firstPlace, numbersFrom}
+use Rattle.lists.proofs.Places.{place-before, place-holds, place-most, numbers-at, numbers-length}
 use Rattle.octets.specs.Smallest.{firstOctet}
 
 at : (k : ℕ) → k < 256 → getD (numbersFrom 0 256) k 0 ≡ k

@@ -7,7 +7,7 @@ use Prim.Native.Nat.{ℕ, _/_, _%_, _≤_, _<_}
 use native.Mathlib.Omega.{arith}
 use native.Mathlib.Decide.{decLe}
 use lib.Dec.{T, eqb, ltb, leb, leb→le, eqb→eq}
-use Rattle.words.proofs.Tests.{both, both-left, both-right, everyBelow, every-below}
+use Rattle.lists.proofs.Tests.{both, both-left, both-right, everyBelow, every-below}
 use Rattle.keys.specs.Keys.{alphabetDigit, languageDigit, noticeDigit, prefixDigit, reservedDigit, generalKey, noticeKey, lastKey, shortKey, pageKey}
 use Rattle.octets.specs.Smallest.{firstOctet, shortOctet, pageOctet}
 use Rattle.octets.specs.Inner.{generalTry, shortTry, pageTry}

@@ -7,7 +7,7 @@
 use Prim.Native.Nat.{ℕ}
 use mathlib.Core.Bool.{Bool, cond}
 use lib.Dec.{eqb}
-use Rattle.words.specs.Lists.{firstPlace, numbersFrom}
+use Rattle.lists.specs.Lists.{firstPlace, numbersFrom}
 use Rattle.keys.specs.Keys.{reservedDigit, shortKey, pageKey}
 
 abbrev pub firstOctet : (ℕ → Bool) → ℕ

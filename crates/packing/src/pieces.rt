@@ -3,7 +3,7 @@ ghost use mathlib.Core.Path.{_≡_};
 ghost use Prim.Native.Nat.{_+_, _*_, _^_, _≤_, _<_};
 ghost use mathlib.Core.List.{_++_};
 ghost use lib.ListN.{length, take, drop};
-ghost use Rattle.words.specs.Lists.{laid};
+ghost use Rattle.lists.specs.Lists.{laid};
 ghost use Rattle.stream.specs.Digits.{value, digits, lowOf};
 use groups::squeeze;
 use groups::stretch;

@@ -4,7 +4,7 @@ ghost use Prim.Native.Nat.{ℕ, _≤_};
 ghost use mathlib.Core.List.{List};
 ghost use mathlib.Core.Bool.{true};
 ghost use lib.ListN.{length, take};
-ghost use Rattle.words.specs.Lists.{laid};
+ghost use Rattle.lists.specs.Lists.{laid};
 ghost use Rattle.stream.specs.Stream.{octetsFor, packed, unpacked};
 ghost use Rattle.stream.specs.UssdPacking.{withCr};
 ghost use Rattle.stream.specs.SeptetCalls.{septetsFit};

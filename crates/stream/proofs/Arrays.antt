@@ -13,7 +13,7 @@ use lib.ListN.{length, take, drop, replicate, length-append, length-replicate, l
 use lib.Seq.{length-take-le, take-length}
 use Rattle.words.specs.declared.Service.{Service}
 use Rattle.words.specs.declared.Service.the-variants.{ShortMessage, Broadcast, Ussd, OldPage}
-use Rattle.words.proofs.Closing.{closing-front}
+use Rattle.lists.proofs.Closing.{closing-front}
 use Rattle.stream.specs.Stream.{unpacked}
 use Rattle.stream.specs.UssdPacking.{last, dropsCr, opened, ussdSeptets}
 use Rattle.stream.specs.Pages.{pageSeptets}

@@ -8,8 +8,8 @@ use native.Mathlib.Nat.{mod-lt, div-one, div-div-eq-div-mul, pow-succ', add-suc,
 use native.Mathlib.Omega.{arith}
 use lib.ListN.{length, getD, List·getD-eq-default}
 use lib.Dec.{lit<}
-use Rattle.words.specs.Bits.{bitOf, gather}
-use Rattle.words.proofs.Bits.{gather-bits}
+use Rattle.lists.specs.Bits.{bitOf, gather}
+use Rattle.lists.proofs.Bits.{gather-bits}
 use Rattle.stream.specs.Stream.{streamBit, cut}
 
 bit-lt : (x i : ℕ) → bitOf x i < 2

@@ -17,12 +17,12 @@ use Rattle.words.specs.declared.Filled.the-variants.{Done, Refused}
 use Rattle.words.specs.declared.Refusal.{Refusal}
 use Rattle.words.specs.declared.Refusal.the-variants.{NoRoom, WrongLength}
 use Rattle.words.specs.Sizes.{mostSeptets, mostUnits, isOldPage}
-use Rattle.words.specs.Lists.{firstPlace, laid}
+use Rattle.lists.specs.Lists.{firstPlace, laid}
 use Rattle.words.specs.Judging.{when, verdict, settle}
-use Rattle.words.proofs.Below.{Below}
-use Rattle.words.proofs.Places.{place-before}
-use Rattle.words.proofs.Laid.{laid-length}
-use Rattle.words.proofs.Tests.{and-left, and-right}
+use Rattle.lists.proofs.Below.{Below}
+use Rattle.lists.proofs.Places.{place-before}
+use Rattle.lists.proofs.Laid.{laid-length}
+use Rattle.lists.proofs.Tests.{and-left, and-right}
 use Rattle.stream.specs.declared.Packed.the-variants as answers
 use Rattle.stream.specs.Stream.{octetsFor, packed}
 use Rattle.stream.specs.SeptetCalls.{octetsOf, travels, countOf, packRules, packAnswers, packLeaves, septetsFit, septetsOf, unpackRules, unpackAnswers, unpackLeaves}

@@ -10,9 +10,9 @@ use lib.Pow.{pow-add, shl-exact}
 use lib.ListN.{length, getD, take, drop, length-append, length-drop, take-append-drop}
 use lib.Dec.{lit≤}
 use lib.Seq.{length-take-le, take-add, drop-drop, drop-cons, getD-drop}
-use Rattle.words.specs.Lists.{laid}
-use Rattle.words.proofs.Laid.{laid-then, laid-length}
-use Rattle.words.proofs.Below.{Below, below-drop}
+use Rattle.lists.specs.Lists.{laid}
+use Rattle.lists.proofs.Laid.{laid-then, laid-length}
+use Rattle.lists.proofs.Below.{Below, below-drop}
 use Rattle.stream.specs.Digits.{value, digits}
 use Rattle.stream.proofs.Numbers.{pow-mul, digits-length, digits-split, value-one, value-append, join-more}
 use Rattle.stream.proofs.Folds.{octets-fit}

@@ -9,7 +9,7 @@ use Rattle.words.specs.declared.Service.the-variants.{ShortMessage, OldPage}
 use Rattle.words.specs.declared.Refusal.the-variants.{Unwritable, NoSeptet, TooLong, WrongLength}
 use Rattle.words.specs.declared.Filled.the-variants as filled
 use Rattle.words.specs.Judging.{verdict}
-use Rattle.words.specs.Lists.{firstPlace}
+use Rattle.lists.specs.Lists.{firstPlace}
 use Rattle.stream.specs.declared.Packed.the-variants as packed
 use Rattle.stream.specs.Stream.{octetsFor}
 use Rattle.stream.specs.SeptetCalls.{packRules, packAnswers, unpackRules, unpackAnswers}

@@ -12,7 +12,7 @@ use lib.Seq.{length-take-le, take-add}
 use native.Mathlib.Nat.{mod-lt}
 use lib.Bits.{bitAnd, bitOr, and-block, and-mask, or-block, or-shifted-r}
 use lib.Pow.{low}
-use Rattle.words.proofs.Below.{Below, below-take, below-drop}
+use Rattle.lists.proofs.Below.{Below, below-take, below-drop}
 use Rattle.stream.specs.Digits.{value, digits}
 use Rattle.stream.specs.Groups.{together, apart}
 use Rattle.stream.proofs.Numbers.{value-digits, value-lt, digits-value, digits-below, digits-low, digits-length, value-append}

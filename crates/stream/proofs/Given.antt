@@ -8,7 +8,7 @@ use lib.ListN.{length}
 use Rattle.words.specs.declared.Filled.{Filled}
 use Rattle.words.specs.declared.Filled.the-variants.{Done, Refused}
 use Rattle.words.specs.declared.Refusal.the-variants.{NoRoom}
-use Rattle.words.specs.Lists.{laid}
+use Rattle.lists.specs.Lists.{laid}
 use Rattle.words.specs.Judging.{verdict}
 use Rattle.stream.specs.Inner.{givenAnswers, givenLeaves}
 

@@ -10,9 +10,9 @@ use lib.Bits.{bitAnd, and-le-r, and-mask}
 use lib.Pow.{pow-pos}
 use lib.ListN.{length, take, drop, replicate, length-map, length-drop}
 use lib.Seq.{length-take-le}
-use Rattle.words.specs.Lists.{laid}
+use Rattle.lists.specs.Lists.{laid}
 use Rattle.stream.specs.Pages.{page}
-use Rattle.words.proofs.Below.{Below, below-take, below-drop}
+use Rattle.lists.proofs.Below.{Below, below-take, below-drop}
 use Rattle.stream.specs.Digits.{value, digits, lowOf}
 use Rattle.stream.specs.Groups.{together, apart}
 use Rattle.stream.proofs.Numbers.{digits-append, digits-low, digits-value, value-append, value-lt}

@@ -13,7 +13,7 @@ use lib.Pow.{pow-add, shl-exact}
 use lib.Bits.{bitAnd, bitOr, or-shifted-r, and-mask}
 use lib.Seq.{length-take-le, take-add, take-at}
 use native.Mathlib.Numerals.{add-one}
-use Rattle.words.proofs.Below.{Below, below-take}
+use Rattle.lists.proofs.Below.{Below, below-take}
 use Rattle.stream.specs.Digits.{value, digits}
 
 pub pow-mul : (a m n : ℕ) → a ^ (m * n) ≡ (a ^ m) ^ n

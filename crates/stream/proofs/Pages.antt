@@ -8,11 +8,11 @@ use native.Mathlib.Nat.{suc-sub-suc, sub-zero}
 use native.Mathlib.Omega.{arith}
 use lib.Dec.{lit<}
 use lib.ListN.{length, drop, replicate, length-replicate}
-use Rattle.words.specs.Lists.{laid}
-use Rattle.words.specs.Closing.{withoutClosing}
-use Rattle.words.proofs.Below.{Below, below-drop, below-append, below-replicate}
-use Rattle.words.proofs.Laid.{laid-length}
-use Rattle.words.proofs.Closing.{closing-run, closing-injective}
+use Rattle.lists.specs.Lists.{laid}
+use Rattle.lists.specs.Closing.{withoutClosing}
+use Rattle.lists.proofs.Below.{Below, below-drop, below-append, below-replicate}
+use Rattle.lists.proofs.Laid.{laid-length}
+use Rattle.lists.proofs.Closing.{closing-run, closing-injective}
 use Rattle.stream.specs.Pages.{page}
 use Rattle.stream.specs.Ucs2.{unitPage}
 

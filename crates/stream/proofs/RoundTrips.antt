@@ -17,8 +17,8 @@ use lib.ListN.{length}
 use Rattle.words.specs.declared.Service.{Service}
 use Rattle.words.specs.declared.Service.the-variants.{ShortMessage, Broadcast, Ussd, OldPage}
 use Rattle.words.specs.Sizes.{mostSeptets, mostUnits, mostOctets, isOldPage}
-use Rattle.words.specs.Closing.{withoutClosing}
-use Rattle.words.proofs.Below.{Below}
+use Rattle.lists.specs.Closing.{withoutClosing}
+use Rattle.lists.proofs.Below.{Below}
 use Rattle.stream.specs.Stream.{octetsFor}
 use Rattle.stream.specs.Ucs2.{unitOctets, unitPage}
 use Rattle.stream.proofs.Stream.{packed-length}

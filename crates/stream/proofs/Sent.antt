@@ -15,10 +15,10 @@ use lib.Seq.{length-take-le, take-add, drop-at, getD-take}
 use Rattle.words.specs.declared.Service.{Service}
 use Rattle.words.specs.declared.Service.the-variants.{ShortMessage, Broadcast, Ussd, OldPage}
 use Rattle.words.specs.Sizes.{mostSeptets, isOldPage}
-use Rattle.words.specs.Lists.{firstPlace, laid}
-use Rattle.words.proofs.Below.{Below, below-take, below-drop, below-append}
-use Rattle.words.proofs.Places.{place-none}
-use Rattle.words.proofs.Laid.{laid-then}
+use Rattle.lists.specs.Lists.{firstPlace, laid}
+use Rattle.lists.proofs.Below.{Below, below-take, below-drop, below-append}
+use Rattle.lists.proofs.Places.{place-none}
+use Rattle.lists.proofs.Laid.{laid-then}
 use Rattle.stream.specs.Stream.{octetsFor, packed}
 use Rattle.stream.specs.Digits.{value, digits, lowOf}
 use Rattle.stream.specs.UssdPacking.{last, addsCr, withCr, closed, ussdOctets}

@@ -11,9 +11,9 @@ use native.Mathlib.Decide.{decLe}
 use lib.ListN.{length, getD}
 use lib.Dec.{lit<}
 use lib.Pow.{pow-pos, pow-mono, pow-add, shr-shr, high}
-use Rattle.words.specs.Bits.{bitOf}
-use Rattle.words.proofs.Bits.{gather-bits}
-use Rattle.words.proofs.Below.{Below}
+use Rattle.lists.specs.Bits.{bitOf}
+use Rattle.lists.proofs.Bits.{gather-bits}
+use Rattle.lists.proofs.Below.{Below}
 use Rattle.stream.specs.Stream.{streamBit, cut, octetsFor, packed, unpacked}
 use Rattle.stream.specs.Digits.{value, digits}
 use Rattle.stream.proofs.Numbers.{pow-mul, digits-below, value-lt, digits-value, value-digits}

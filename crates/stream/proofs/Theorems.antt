@@ -28,10 +28,10 @@ use native.Mathlib.Omega.{arith}
 use lib.Dec.{lit<}
 use lib.ListN.{length, getD, take, replicate, length-append}
 use lib.Seq.{ext-getD, take-at}
-use Rattle.words.specs.Bits.{bitOf}
-use Rattle.words.specs.Lists.{laid}
-use Rattle.words.specs.Closing.{withoutClosing}
-use Rattle.words.proofs.Below.{Below}
+use Rattle.lists.specs.Bits.{bitOf}
+use Rattle.lists.specs.Lists.{laid}
+use Rattle.lists.specs.Closing.{withoutClosing}
+use Rattle.lists.proofs.Below.{Below}
 use Rattle.stream.specs.Stream.{streamBit, octetsFor, packed, unpacked}
 use Rattle.stream.specs.UssdPacking.{last, ussdOctets, ussdSeptets}
 use Rattle.stream.specs.Pages.{page, pageOctets, pageSeptets}

@@ -8,7 +8,7 @@ use native.Mathlib.Numerals.{add-one}
 use native.Mathlib.Omega.{arith}
 use lib.Arith.{digits-mod}
 use lib.ListN.{length, getD, drop}
-use Rattle.words.proofs.Below.{Below}
+use Rattle.lists.proofs.Below.{Below}
 use Rattle.stream.specs.Ucs2.{unitOctets, octetUnits}
 
 pub unit-octets-length : (us : List ℕ) → length (unitOctets us) ≡ 2 * length us

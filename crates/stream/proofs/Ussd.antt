@@ -10,7 +10,7 @@ use borrow.Author.Tests.{eq-eqb, ne-eqb, lt-ltb, le-ltb}
 use lib.Dec.{eqb, lit<}
 use lib.ListN.{length, take, length-append}
 use lib.Seq.{getD-at, take-at}
-use Rattle.words.proofs.Below.{Below, below-append}
+use Rattle.lists.proofs.Below.{Below, below-append}
 use Rattle.stream.specs.Stream.{octetsFor, packed, unpacked}
 use Rattle.stream.specs.UssdPacking.{last, addsCr, withCr, closed, ussdOctets, dropsCr, opened, ussdSeptets}
 use Rattle.stream.proofs.Stream.{packed-length, unpacked-packed}

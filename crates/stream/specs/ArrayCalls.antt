@@ -24,8 +24,8 @@ use Rattle.words.specs.declared.Filled.{Filled}
 use Rattle.words.specs.declared.Filled.the-variants.{Done, Refused}
 use Rattle.words.specs.declared.Refusal.the-variants.{Unwritable, NoSeptet, TooLong, NoRoom, WrongLength}
 use Rattle.words.specs.Sizes.{mostSeptets, isOldPage}
-use Rattle.words.specs.Lists.{firstWide, laid}
-use Rattle.words.specs.Closing.{withoutClosing}
+use Rattle.lists.specs.Lists.{firstWide, laid}
+use Rattle.lists.specs.Closing.{withoutClosing}
 use Rattle.words.specs.Judging.{Rule, when, verdict, settle, serviceRules}
 use Rattle.stream.specs.Stream.{packed, unpacked}
 use Rattle.stream.specs.Digits.{lowOf}

@@ -14,7 +14,7 @@ use Rattle.words.specs.declared.Service.the-variants.{ShortMessage, Broadcast, 
 use Rattle.words.specs.declared.Filled.{Filled}
 use Rattle.words.specs.declared.Filled.the-variants.{Done, Refused}
 use Rattle.words.specs.declared.Refusal.the-variants.{NoRoom}
-use Rattle.words.specs.Lists.{laid}
+use Rattle.lists.specs.Lists.{laid}
 use Rattle.words.specs.Judging.{Rule, when, verdict, settle}
 use Rattle.stream.specs.declared.Packed.{Packed}
 use Rattle.stream.specs.declared.Packed.the-variants as packed

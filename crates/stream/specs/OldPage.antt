@@ -5,7 +5,7 @@ use Prim.Native.Nat.{ℕ}
 use mathlib.Core.List.{List}
 use Rattle.words.specs.declared.Service.the-variants.{OldPage}
 use Rattle.words.specs.Sizes.{mostSeptets}
-use Rattle.words.specs.Closing.{withoutClosing}
+use Rattle.lists.specs.Closing.{withoutClosing}
 use Rattle.stream.specs.Stream.{unpacked}
 
 unfoldable pub oldPageSeptets : List ℕ → List ℕ

@@ -8,8 +8,8 @@ use mathlib.Core.List.{List}
 use lib.ListN.{replicate}
 use Rattle.words.specs.declared.Service.the-variants.{Broadcast}
 use Rattle.words.specs.Sizes.{mostSeptets}
-use Rattle.words.specs.Lists.{laid}
-use Rattle.words.specs.Closing.{withoutClosing}
+use Rattle.lists.specs.Lists.{laid}
+use Rattle.lists.specs.Closing.{withoutClosing}
 use Rattle.stream.specs.Stream.{packed, unpacked}
 use Rattle.stream.specs.UssdPacking.{cr}
 

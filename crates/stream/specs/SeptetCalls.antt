@@ -19,7 +19,7 @@ use Rattle.words.specs.declared.Filled.{Filled}
 use Rattle.words.specs.declared.Filled.the-variants as filled
 use Rattle.words.specs.declared.Refusal.the-variants.{Unwritable, NoSeptet, TooLong, NoRoom, WrongLength}
 use Rattle.words.specs.Sizes.{mostSeptets, mostOctets, isOldPage}
-use Rattle.words.specs.Lists.{firstWide, laid}
+use Rattle.lists.specs.Lists.{firstWide, laid}
 use Rattle.words.specs.Judging.{Rule, when, verdict, settle, serviceRules}
 use Rattle.stream.specs.declared.Packed.{Packed}
 use Rattle.stream.specs.declared.Packed.the-variants as done

@@ -9,7 +9,7 @@
 use Prim.Native.Nat.{ℕ, zero, suc, _+_, _*_, _/_, _%_}
 use mathlib.Core.List.{List, [], _∷_}
 use lib.ListN.{length, getD}
-use Rattle.words.specs.Bits.{bitOf, gather}
+use Rattle.lists.specs.Bits.{bitOf, gather}
 
 -- bit m is bit m % w of piece m / w
 unfoldable pub streamBit : ℕ → List ℕ → ℕ → ℕ

@@ -9,7 +9,7 @@ use mathlib.Core.List.{List, [], _∷_}
 use lib.ListN.{replicate}
 use Rattle.words.specs.declared.Service.the-variants.{Broadcast}
 use Rattle.words.specs.Sizes.{mostUnits}
-use Rattle.words.specs.Lists.{laid}
+use Rattle.lists.specs.Lists.{laid}
 use Rattle.stream.specs.UssdPacking.{cr}
 
 unfoldable pub unitOctets : List ℕ → List ℕ

@@ -18,8 +18,8 @@ use Rattle.words.specs.declared.Filled.{Filled}
 use Rattle.words.specs.declared.Filled.the-variants.{Done, Refused}
 use Rattle.words.specs.declared.Refusal.the-variants.{Unwritable, TooLong, NoRoom, WrongLength}
 use Rattle.words.specs.Sizes.{mostUnits, mostOctets, isOldPage}
-use Rattle.words.specs.Lists.{laid}
-use Rattle.words.specs.Closing.{withoutClosing}
+use Rattle.lists.specs.Lists.{laid}
+use Rattle.lists.specs.Closing.{withoutClosing}
 use Rattle.words.specs.Judging.{Rule, when, verdict, settle, serviceRules}
 use Rattle.stream.specs.SeptetCalls.{travels}
 use Rattle.stream.specs.UssdPacking.{cr}

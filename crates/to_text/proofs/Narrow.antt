@@ -8,8 +8,8 @@ use lib.Bits.{bitAnd, bitOr, or-add-and, and-le-l, and-le-r, and-mask}
 use lib.Dec.{leb}
 use lib.ListN.{length, getD}
 use borrow.Author.Tests.{leb-false}
-use Rattle.words.specs.Lists.{firstWide}
-use Rattle.words.proofs.Places.{place-before}
+use Rattle.lists.specs.Lists.{firstWide}
+use Rattle.lists.proofs.Places.{place-before}
 
 -- bits that are below 128 together are below it each
 pub or-left : (a b : ℕ) → bitOr a b < 128 → a < 128

@@ -5,7 +5,7 @@ ghost use mathlib.Core.Bool.{cond};
 ghost use Prim.Native.Nat.{ℕ, _+_, _-_, _≤_, _<_};
 ghost use lib.Dec.{eqb};
 ghost use lib.ListN.{length, take, getD};
-ghost use Rattle.words.specs.Lists.{laid};
+ghost use Rattle.lists.specs.Lists.{laid};
 ghost use Rattle.letters.specs.Inner.{Own, OwnFrom};
 
 // By how much a is above b, or 0.

@@ -4,7 +4,7 @@ ghost use mathlib.Core.Bool.{true, false};
 ghost use mathlib.Core.Logic.{_⊎_};
 ghost use Prim.Native.Nat.{_+_, _≤_, _<_};
 ghost use lib.ListN.{length, take, drop, set};
-ghost use Rattle.words.specs.Lists.{firstWide, laid};
+ghost use Rattle.lists.specs.Lists.{firstWide, laid};
 ghost use Rattle.letters.specs.Reading.{readAs, textAnswers, textLeaves};
 ghost use Rattle.letters.specs.Inner.{OwnFrom, firstRead, Stepped};
 use crate::own;

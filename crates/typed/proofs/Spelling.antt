@@ -11,10 +11,10 @@ use borrow.Author.Tests.{lt-ltb, le-ltb, le-leb, lt-leb, leb-false, eq-eqb, ne-e
 use lib.Dec.{T, leb, ltb, eqb, eqb→eq, leb→le}
 use lib.ListN.{length, take, drop, set, getD, drop-of-length-le}
 use lib.Seq.{take-suc, drop-drop}
-use Rattle.words.specs.Lists.{laid, firstPlace, numbersFrom}
-use Rattle.words.proofs.Laid.{Laying, lay-one, lay-rest, lay-end}
-use Rattle.words.proofs.Places.{place-before}
-use Rattle.words.proofs.Tests.{everyBelow, every-below}
+use Rattle.lists.specs.Lists.{laid, firstPlace, numbersFrom}
+use Rattle.lists.proofs.Laid.{Laying, lay-one, lay-rest, lay-end}
+use Rattle.lists.proofs.Places.{place-before}
+use Rattle.lists.proofs.Tests.{everyBelow, every-below}
 use Rattle.typed.specs.Spelling.{digitOf, digitFor, numberFrom, numberIn, numbersIn, onlyDigits, digits, fitting, elementsAnswers, elementsLeave, zeroLed, numberAnswers}
 use Rattle.typed.specs.declared.Elements.{Elements}
 use Rattle.typed.specs.declared.Elements.the-variants.{Done, Nothing}

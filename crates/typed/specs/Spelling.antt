@@ -12,7 +12,7 @@ use mathlib.Core.Bool.{Bool, not, cond, _&&_}
 use mathlib.Core.List.{List, [], _∷_, _++_}
 use lib.Dec.{leb, ltb, eqb}
 use lib.ListN.{length, take, drop, getD}
-use Rattle.words.specs.Lists.{laid, firstPlace, numbersFrom}
+use Rattle.lists.specs.Lists.{laid, firstPlace, numbersFrom}
 use Rattle.typed.specs.declared.Elements.{Elements}
 use Rattle.typed.specs.declared.Elements.the-variants as elements
 use Rattle.typed.specs.declared.Number.{Number}

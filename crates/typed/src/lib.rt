@@ -3,7 +3,7 @@ ghost use mathlib.Core.Path.{_≡_};
 ghost use Prim.Native.Nat.{ℕ, _+_, _^_, _≤_, _<_};
 ghost use lib.Dec.{leb};
 ghost use lib.ListN.{length, getD, take, drop};
-ghost use Rattle.words.specs.Lists.{firstPlace};
+ghost use Rattle.lists.specs.Lists.{firstPlace};
 ghost use Rattle.typed.specs.Spelling.{digitOf, digitFor, numberIn, elementsAnswers, elementsLeave, zeroLed, numberAnswers};
 
 // What reading octets or units answers.

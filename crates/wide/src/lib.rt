@@ -2,7 +2,7 @@
 ghost use mathlib.Core.Path.{_≡_};
 ghost use Prim.Native.Nat.{ℕ, _≤_};
 ghost use lib.ListN.{getD};
-ghost use Rattle.words.specs.Lists.{firstWide};
+ghost use Rattle.lists.specs.Lists.{firstWide};
 
 // The bits that any septet has: one test of the result judges them all. The loop vectorises, sixteen septets at a time.
 fn all_bits(septets: &[u8]) -> u8

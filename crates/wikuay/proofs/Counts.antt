@@ -12,7 +12,7 @@ use Rattle.words.specs.declared.Service.{Service}
 use Rattle.words.specs.declared.Service.the-variants.{ShortMessage, Broadcast, Ussd, OldPage}
 use Rattle.words.specs.declared.Refusal.the-variants.{Unwritable, NoSeptet, TooLong, Unlisted}
 use Rattle.words.specs.Sizes.{mostSeptets, mostUnits, isOldPage}
-use Rattle.words.specs.Lists.{firstPlace}
+use Rattle.lists.specs.Lists.{firstPlace}
 use Rattle.words.specs.Judging.{Verdict, refused, accepted, verdict, settle}
 use Rattle.words.proofs.Judging.{accepted-rule, accepted-parts}
 use Rattle.coding.specs.declared.Reading.{Reading}

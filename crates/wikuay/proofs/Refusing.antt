@@ -15,7 +15,7 @@ use Rattle.words.specs.declared.Refusal.{Refusal}
 use Rattle.words.specs.declared.Refusal.the-variants.{Unwritable}
 use Rattle.words.specs.Refusals.{numberOf}
 use Rattle.words.specs.Judging.{Rule, when, Verdict, refused, accepted, verdict, settle}
-use Rattle.words.proofs.Tests.{and-left, and-right}
+use Rattle.lists.proofs.Tests.{and-left, and-right}
 use Rattle.coding.specs.declared.Reading.{Reading}
 use Rattle.coding.specs.OctetRead.{octetRules, octetReads}
 use Rattle.coding.specs.OctetWritten.{octetWrites, writeRules as codingRules}

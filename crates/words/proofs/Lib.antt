@@ -2,11 +2,4 @@ pub mod Unique
 pub mod Outcomes
 pub mod Judging
 pub mod Numbers
-pub mod Bits
-pub mod Tests
-pub mod Places
-pub mod Laid
-pub mod Below
 pub mod Filling
-pub mod Ends
-pub mod Closing

@@ -1,7 +1,7 @@
 -- The septets from n on are filling, so that the first n decide what is left.
 use Prim.Native.Nat.{ℕ, _≤_}
 use lib.ListN.{length}
-use Rattle.words.proofs.Closing.{Filled-from, filled-end, filled-down, filled-here, filled-whole}
+use Rattle.lists.proofs.Closing.{Filled-from, filled-end, filled-down, filled-here, filled-whole}
 use borrow.Author.Needs.{needs}
 use Rattle.closing.proofs.kept.Statement.{statement}
 use Rattle.closing.proofs.kept.Tie as tie

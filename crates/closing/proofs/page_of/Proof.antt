@@ -6,7 +6,7 @@ use mathlib.Core.List.{List}
 use native.Mathlib.Omega.{arith}
 use lib.ListN.{length, getD, set, take, drop, replicate, length-replicate, drop-of-length-le}
 use lib.Seq.{take-all, length-take-le, getD-take}
-use Rattle.words.proofs.Laid.{Laying, lay-none, lay-rest, lay-one, lay-moved, lay-end}
+use Rattle.lists.proofs.Laid.{Laying, lay-none, lay-rest, lay-one, lay-moved, lay-end}
 use Rattle.stream.specs.Pages.{page}
 use borrow.Author.Needs.{needs}
 use Rattle.closing.proofs.page_of.Statement.{statement}

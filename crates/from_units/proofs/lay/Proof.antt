@@ -2,7 +2,7 @@
 use Prim.Native.Nat.{ℕ, _≤_, _-_, _<_}
 use mathlib.Core.List.{List}
 use lib.ListN.{length, drop, replicate, drop-of-length-le}
-use Rattle.words.proofs.Laid.{Laying, lay-none, lay-one, lay-rest, lay-end}
+use Rattle.lists.proofs.Laid.{Laying, lay-none, lay-one, lay-rest, lay-end}
 use Rattle.stream.specs.Ucs2.{unitPage}
 use borrow.Author.Needs.{needs}
 use Rattle.from_units.proofs.lay.Statement.{statement}

@@ -5,7 +5,7 @@ use mathlib.Core.Path.{_≡_, sym, ap}
 use mathlib.Core.List.{List}
 use native.Mathlib.Omega.{arith}
 use lib.Bits.{and-mask, mask-lt}
-use Rattle.words.proofs.Laid.{Laying, lay-none, lay-left, lay-one, lay-moved, lay-end}
+use Rattle.lists.proofs.Laid.{Laying, lay-none, lay-left, lay-one, lay-moved, lay-end}
 use Rattle.stream.specs.Ucs2.{unitOctets}
 use Rattle.stream.proofs.UnitOctets.{unit-octets-length, unit-octets-next}
 use Rattle.stream.proofs.Given.{given-short, given-done}

@@ -11,9 +11,9 @@ use lib.Seq.{take-all}
 use Rattle.words.specs.declared.Refusal.the-variants.{NoSeptet}
 use Rattle.words.specs.declared.Filled.{Filled}
 use Rattle.words.specs.Sizes.{mostSeptets, isOldPage}
-use Rattle.words.specs.Lists.{firstPlace}
+use Rattle.lists.specs.Lists.{firstPlace}
 use Rattle.words.specs.Judging.{verdict}
-use Rattle.words.proofs.Below.{Below}
+use Rattle.lists.proofs.Below.{Below}
 use Rattle.stream.specs.Stream.{packed}
 use Rattle.stream.specs.declared.Packed.the-variants.{Refused}
 use Rattle.stream.specs.Digits.{lowOf}

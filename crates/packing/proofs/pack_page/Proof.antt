@@ -8,7 +8,7 @@ use lib.Dec.{leb}
 use lib.ListN.{length}
 use Rattle.words.specs.declared.Filled.the-variants.{Refused}
 use Rattle.words.specs.declared.Refusal.the-variants.{NoSeptet}
-use Rattle.words.specs.Lists.{firstPlace}
+use Rattle.lists.specs.Lists.{firstPlace}
 use Rattle.words.specs.Judging.{verdict}
 use Rattle.stream.specs.Stream.{packed}
 use Rattle.stream.specs.ArrayCalls.{pageRules, pageAnswers, pageLeaves}

@@ -11,7 +11,7 @@ use native.Mathlib.Nat.{min-le-left}
 use Rattle.words.specs.declared.Filled.{Filled}
 use Rattle.words.specs.Sizes.{mostSeptets, isOldPage}
 use Rattle.words.specs.Judging.{verdict}
-use Rattle.words.proofs.Below.{below-take}
+use Rattle.lists.proofs.Below.{below-take}
 use Rattle.stream.specs.Stream.{packed}
 use Rattle.stream.specs.Digits.{lowOf}
 use Rattle.stream.specs.UssdPacking.{withCr}

@@ -1,7 +1,7 @@
 -- `shown::after_escape` meets its contract: each arm is what is printed for its code, and the rest is no code.
 -- Assumes nothing.
 use mathlib.Core.Path.{sym, ap}
-use Rattle.words.specs.Lists.{firstPlace, numbersFrom}
+use Rattle.lists.specs.Lists.{firstPlace, numbersFrom}
 use Rattle.letters.specs.Tables.{mainTable, extension, among, beside}
 use Rattle.letters.specs.Reading.{unitIn, afterEscapeIn, mainUnit, afterEscape}
 use Rattle.letters.proofs.Entries.{rest-wide, escaped-wide}

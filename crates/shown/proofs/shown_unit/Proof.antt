@@ -1,7 +1,7 @@
 -- `shown::shown_unit` meets its contract: each arm is what is printed for its code, and the rest is no code.
 -- Assumes nothing.
 use mathlib.Core.Path.{sym, ap}
-use Rattle.words.specs.Lists.{firstPlace, numbersFrom}
+use Rattle.lists.specs.Lists.{firstPlace, numbersFrom}
 use Rattle.letters.specs.Tables.{mainTable, beside}
 use Rattle.letters.specs.Reading.{unitIn, mainUnit, shown}
 use Rattle.letters.proofs.Entries.{rest-wide, shown-wide}

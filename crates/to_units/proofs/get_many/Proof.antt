@@ -5,7 +5,7 @@ use mathlib.Core.List.{List, _++_}
 use native.Mathlib.Omega.{arith}
 use lib.ListN.{length, take, drop}
 use lib.Seq.{length-take-le, take-take, take-add, take-append-le, drop-append-add, drop-drop}
-use Rattle.words.specs.Lists.{laid}
+use Rattle.lists.specs.Lists.{laid}
 use Rattle.stream.specs.Ucs2.{octetUnits}
 use Rattle.stream.proofs.UnitOctets.{octet-units-length}
 use borrow.Author.Needs.{needs}

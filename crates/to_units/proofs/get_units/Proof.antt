@@ -5,7 +5,7 @@ use mathlib.Core.List.{List}
 use native.Mathlib.Omega.{arith}
 use lib.ListN.{length, take}
 use lib.Seq.{length-take-le}
-use Rattle.words.specs.Lists.{laid}
+use Rattle.lists.specs.Lists.{laid}
 use Rattle.words.specs.declared.Filled.the-variants.{Done}
 use Rattle.stream.specs.Ucs2.{octetUnits}
 use Rattle.stream.proofs.UnitOctets.{octet-units-length}

@@ -10,7 +10,7 @@ use lib.Seq.{take-all}
 use Rattle.words.specs.declared.Service.{Service}
 use Rattle.words.specs.declared.Service.the-variants.{ShortMessage, Broadcast, Ussd}
 use Rattle.words.specs.Judging.{verdict}
-use Rattle.words.proofs.Closing.{closing-front, closing-length}
+use Rattle.lists.proofs.Closing.{closing-front, closing-length}
 use Rattle.stream.specs.Ucs2.{octetUnits}
 use Rattle.stream.specs.UnitCalls.{unitsFit, toUnitsRules, toUnitsAnswers, toUnitsLeaves}
 use Rattle.stream.proofs.Given.{Gives}

@@ -4,7 +4,7 @@ use mathlib.Core.Path.{_≡_, sym, _∙_, subst}
 use mathlib.Core.List.{List}
 use native.Mathlib.Omega.{arith}
 use lib.ListN.{length}
-use Rattle.words.proofs.Closing.{Filled-from, filled-end, filled-down, filled-here, filled-whole}
+use Rattle.lists.proofs.Closing.{Filled-from, filled-end, filled-down, filled-here, filled-whole}
 use Rattle.stream.specs.Ucs2.{octetUnits}
 use Rattle.stream.proofs.UnitOctets.{octet-units-length}
 use borrow.Author.Needs.{needs}

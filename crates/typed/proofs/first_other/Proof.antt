@@ -6,7 +6,7 @@ use mathlib.Core.List.{List}
 use borrow.Author.Tests.{le-leb, lt-leb}
 use lib.Dec.{leb}
 use lib.ListN.{length}
-use Rattle.words.proofs.Places.{Passed, passed-none, passed-more, passed-here, passed-over}
+use Rattle.lists.proofs.Places.{Passed, passed-none, passed-more, passed-here, passed-over}
 use Rattle.typed.specs.Spelling.{digitOf}
 use borrow.Author.Needs.{needs}
 use Rattle.typed.proofs.first_other.Statement.{statement}

@@ -7,7 +7,7 @@ use native.Mathlib.Omega.{arith}
 use lib.Dec.{leb}
 use lib.ListN.{length}
 use lib.Seq.{take-length}
-use Rattle.words.specs.Lists.{firstPlace}
+use Rattle.lists.specs.Lists.{firstPlace}
 use Rattle.typed.specs.Spelling.{digitOf, numberIn}
 use Rattle.typed.specs.declared.Number.the-variants.{Is}
 use Rattle.typed.proofs.Spelling.{only-yes, only-no, digits-below, number-none, number-long, number-led, number-other, number-large, number-is}

@@ -7,7 +7,7 @@ use native.Mathlib.Omega.{arith}
 use borrow.Author.Tests.{le-leb, lt-leb}
 use lib.Dec.{leb}
 use lib.ListN.{length, getD}
-use Rattle.words.proofs.Places.{Passed, passed-none, passed-more, passed-here, passed-over, place-none}
+use Rattle.lists.proofs.Places.{Passed, passed-none, passed-more, passed-here, passed-over, place-none}
 use borrow.Author.Needs.{needs}
 use Rattle.wide.proofs.first_wide.Statement.{statement}
 use Rattle.wide.proofs.first_wide.Tie as tie

@@ -5,8 +5,8 @@ use mathlib.Core.List.{List, _++_}
 use native.Mathlib.Omega.{arith}
 use native.Mathlib.Nat.{mul-zero}
 use lib.ListN.{length, take, drop, length-map}
-use Rattle.words.specs.Lists.{laid}
-use Rattle.words.proofs.Laid.{laid-then}
+use Rattle.lists.specs.Lists.{laid}
+use Rattle.lists.proofs.Laid.{laid-then}
 use Rattle.stream.specs.Digits.{value, digits, lowOf}
 use Rattle.stream.proofs.Numbers.{digits-length, group-within, recut-group}
 use borrow.Author.Needs.{needs}

@@ -6,7 +6,7 @@ use mathlib.Core.List.{List}
 use native.Mathlib.Omega.{arith}
 use lib.Bits.{bitOr}
 use lib.ListN.{length, take, drop, getD}
-use Rattle.words.proofs.Below.{Below}
+use Rattle.lists.proofs.Below.{Below}
 use Rattle.stream.specs.Digits.{value}
 use Rattle.stream.proofs.Ends.{Taken, taken-none, taken-one, taken-run, taken-same, taken-end}
 use borrow.Author.Needs.{needs}

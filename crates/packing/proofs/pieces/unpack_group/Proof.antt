@@ -4,7 +4,7 @@ use mathlib.Core.Path.{_≡_, sym, ap, _∙_}
 use mathlib.Core.Logic.{⊎-elim}
 use mathlib.Core.List.{List, _++_}
 use lib.ListN.{take, drop}
-use Rattle.words.proofs.Below.{Below}
+use Rattle.lists.proofs.Below.{Below}
 use Rattle.stream.specs.Digits.{value, digits}
 use borrow.Author.Needs.{needs}
 use Rattle.stream.proofs.LowBits.{low-same, apart-seven, apart-octets}

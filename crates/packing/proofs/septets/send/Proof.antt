@@ -5,7 +5,7 @@ use mathlib.Core.List.{List, _++_}
 use native.Mathlib.Omega.{arith}
 use lib.ListN.{length, take, drop, length-map, length-drop}
 use lib.Seq.{take-all}
-use Rattle.words.proofs.Below.{Below, below-drop}
+use Rattle.lists.proofs.Below.{Below, below-drop}
 use Rattle.stream.specs.Stream.{octetsFor, packed}
 use Rattle.stream.specs.Digits.{value, digits, lowOf}
 use Rattle.stream.specs.Groups.{together, leftOver}

@@ -5,8 +5,8 @@ use mathlib.Core.List.{List, _++_}
 use native.Mathlib.Omega.{arith}
 use lib.ListN.{length, take, drop, length-map, length-drop}
 use lib.Seq.{take-take, length-take-le}
-use Rattle.words.specs.Lists.{laid}
-use Rattle.words.proofs.Below.{Below, below-take, below-drop}
+use Rattle.lists.specs.Lists.{laid}
+use Rattle.lists.proofs.Below.{Below, below-take, below-drop}
 use Rattle.stream.specs.Stream.{octetsFor, packed}
 use Rattle.stream.specs.Digits.{value, digits, lowOf}
 use Rattle.stream.specs.Groups.{leftOver}

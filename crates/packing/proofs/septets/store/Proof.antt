@@ -5,7 +5,7 @@ use mathlib.Core.List.{List}
 use native.Mathlib.Omega.{arith}
 use lib.ListN.{length, take, drop, drop-of-length-le}
 use lib.Seq.{length-take-le}
-use Rattle.words.proofs.Laid.{Laying, lay-none, lay-front, lay-end}
+use Rattle.lists.proofs.Laid.{Laying, lay-none, lay-front, lay-end}
 use Rattle.stream.proofs.Given.{given-short, given-done}
 use borrow.Author.Needs.{needs}
 use Rattle.packing.proofs.septets.store.Statement.{statement}

@@ -5,9 +5,9 @@ use mathlib.Core.List.{List, _++_, append-nil}
 use native.Mathlib.Omega.{arith}
 use lib.ListN.{length, take, drop, length-drop, take-append-drop}
 use lib.Seq.{take-all, length-take-le}
-use Rattle.words.specs.Lists.{laid}
-use Rattle.words.proofs.Laid.{laid-then}
-use Rattle.words.proofs.Below.{Below, below-take}
+use Rattle.lists.specs.Lists.{laid}
+use Rattle.lists.proofs.Laid.{laid-then}
+use Rattle.lists.proofs.Below.{Below, below-take}
 use Rattle.stream.specs.Stream.{octetsFor, unpacked}
 use Rattle.stream.specs.Digits.{value, digits}
 use Rattle.stream.specs.Groups.{apart}

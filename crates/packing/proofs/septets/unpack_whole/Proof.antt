@@ -7,7 +7,7 @@ use native.Mathlib.Omega.{arith}
 use borrow.Author.Tests.{not-true, not-false, lt-ltb, le-ltb}
 use lib.ListN.{length}
 use Rattle.words.specs.declared.Filled.the-variants.{Done}
-use Rattle.words.specs.Lists.{laid}
+use Rattle.lists.specs.Lists.{laid}
 use Rattle.words.specs.Judging.{verdict}
 use Rattle.stream.specs.Stream.{octetsFor, unpacked}
 use Rattle.stream.proofs.Stream.{unpacked-length}

@@ -7,7 +7,7 @@ use native.Mathlib.Omega.{arith}
 use lib.ListN.{take, drop, drop-of-length-le}
 use lib.Seq.{length-take-le}
 use borrow.Author.Needs.{needs}
-use Rattle.words.proofs.Laid.{Laying, lay-none, lay-front, lay-end}
+use Rattle.lists.proofs.Laid.{Laying, lay-none, lay-front, lay-end}
 use Rattle.to_text.proofs.own.copy_septets.Statement.{statement}
 use Rattle.to_text.proofs.own.copy_septets.Tie as tie
 

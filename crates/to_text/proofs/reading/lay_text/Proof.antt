@@ -6,7 +6,7 @@ use Prim.Native.Nat.{_-_, _≤_}
 use native.Mathlib.Omega.{arith}
 use lib.ListN.{length, drop}
 use borrow.Author.Needs.{needs}
-use Rattle.words.proofs.Laid.{Laying, lay-room, lay-one, lay-left, lay-end, lay-count, lay-moved}
+use Rattle.lists.proofs.Laid.{Laying, lay-room, lay-one, lay-left, lay-end, lay-count, lay-moved}
 use Rattle.letters.specs.Reading.{readAs}
 use Rattle.letters.proofs.Septets.{read-over}
 use Rattle.letters.proofs.OwnCodes.{laying-front}

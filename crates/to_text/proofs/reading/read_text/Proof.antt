@@ -11,7 +11,7 @@ use lib.Dec.{ltb}
 use lib.ListN.{length, take}
 use borrow.Author.Tests.{le-ltb}
 use borrow.Author.Needs.{needs}
-use Rattle.words.specs.Lists.{firstWide, laid}
+use Rattle.lists.specs.Lists.{firstWide, laid}
 use Rattle.words.proofs.Filling.{fills-short, fills-done}
 use Rattle.letters.specs.Reading.{readAs, textRules, textAnswers, textLeaves}
 use Rattle.letters.proofs.Septets.{read-most, refused-wide}

@@ -10,8 +10,8 @@ use lib.ListN.{length, getD, drop, length-drop}
 use lib.Seq.{take-all}
 use borrow.Author.Tests.{lt-leb}
 use borrow.Author.Needs.{needs}
-use Rattle.words.specs.Lists.{firstWide}
-use Rattle.words.proofs.Places.{passed-over, place-most, place-none}
+use Rattle.lists.specs.Lists.{firstWide}
+use Rattle.lists.proofs.Places.{passed-over, place-most, place-none}
 use Rattle.letters.proofs.OwnCodes.{own-narrow}
 use Rattle.to_text.proofs.Narrow.{or-left, or-right}
 use Rattle.to_text.proofs.reading.wide_behind.Statement.{statement}
