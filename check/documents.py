@@ -1,9 +1,9 @@
 #!/usr/bin/env python3
 """Holds the documents to the source: what they name is there.
 
-In README.md and docs/*.md every link leads to a file, every path under crates/ exists, and every crate that README's and
-ARCHITECTURE's tables list is one of crates.txt and the other way round. In docs/DEMANDS.md every edit, written `crate/label`,
-and every theorem, written in kebab-case, exists. docs/EDITS.md has a row for each must-fail edit, with the edit's own words.
+In README.md and docs/*.md every link leads to a file, every path under crates/ exists, every item written `crate::item` or
+`module::item` is in the source, and every crate that README's and ARCHITECTURE's tables list is one of crates.txt and the other way
+round. In docs/DEMANDS.md every edit, written `crate/label`, and every theorem, written in kebab-case, exists. docs/EDITS.md has a row for each must-fail edit, with the edit's own words.
 docs/TRUST.md has a row for each file of definitions, and its count of their lines is right to the hundred.
 
     documents.py              judges the documents
@@ -17,7 +17,7 @@ import sys
 ROOT = pathlib.Path(__file__).resolve().parent.parent
 
 
-def faults_in(name, text, exists, crates, edits, theorems, specs):
+def faults_in(name, text, exists, crates, edits, theorems, specs, items):
     """What a document says that is not so, in words. `exists` tells whether a path is there, `edits` has the row of each edit."""
     found = []
     folder = pathlib.PurePosixPath(name).parent
@@ -27,6 +27,9 @@ def faults_in(name, text, exists, crates, edits, theorems, specs):
     for path in re.findall(r"`(crates/[\w./-]+)`", text):
         if "CRATE" not in path and not exists(pathlib.PurePosixPath(path)):
             found.append(f"names {path}, which is not there")
+    for item in re.findall(r"`([a-z]\w*::\w+)", text):
+        if item not in items:
+            found.append(f"names {item}, which is not there")
     if name in ("README.md", "docs/ARCHITECTURE.md"):
         table = re.search(r"^\| Crate \|.*\n\|[-| ]+\n((?:\|.*\n?)+)", text, re.M)
         rows = re.findall(r"`(\w+)`", "".join(re.findall(r"^\|([^|]*)\|", table[1], re.M))) if table else []
@@ -69,6 +72,8 @@ def self_test():
         ("docs/B.md", "[A](A.md) `crates/a/src`", 0),
         ("docs/B.md", "[C](C.md)", 1),
         ("docs/B.md", "`crates/b/src`", 1),
+        ("docs/B.md", "`a::call(x)` `Type::call`", 0),
+        ("docs/B.md", "`b::call`", 1),
         ("README.md", table, 0),
         ("README.md", table.replace("`a`", "`b`"), 2),
         ("README.md", "nothing", 1),
@@ -81,7 +86,7 @@ def self_test():
         ("docs/TRUST.md", "300 lines\n| `a` | `Bits` | x |\n", 3),
     ]
     for name, text, expected in tests:
-        found = faults_in(name, text, exists, ["a"], {"a/one": "| `a/one` | code | x |"}, {"to-be"}, {("a", "Sizes"): 120})
+        found = faults_in(name, text, exists, ["a"], {"a/one": "| `a/one` | code | x |"}, {"to-be"}, {("a", "Sizes"): 120}, {"a::call"})
         if len(found) != expected:
             sys.exit(f"documents: self-test: expected {expected} faults in {text!r}, found {found}")
 
@@ -100,11 +105,18 @@ def main(edits_only):
         for path in sorted((ROOT / "crates" / crate / "specs").glob("*.antt"))
         if path.stem not in ("Lib", "Inner")
     }
+    items = {
+        f"{place}::{item}"
+        for crate in crates
+        for path in (ROOT / "crates" / crate / "src").glob("*.rt")
+        for place in (crate, path.stem)
+        for item in re.findall(r"\b(?:fn|struct|enum|const|mod) (\w+)", path.read_text(encoding="utf-8"))
+    }
     documents = [ROOT / "README.md", *sorted((ROOT / "docs").glob("*.md"))]
     count = 0
     for path in documents:
         name = str(path.relative_to(ROOT))
-        for fault in faults_in(name, path.read_text(encoding="utf-8"), lambda p: (ROOT / p).exists(), crates, edits, theorems, specs):
+        for fault in faults_in(name, path.read_text(encoding="utf-8"), lambda p: (ROOT / p).exists(), crates, edits, theorems, specs, items):
             count += 1
             print(f"{name} {fault}")
     print(f"documents: {len(documents)} read, {count} faults")
