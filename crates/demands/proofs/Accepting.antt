@@ -32,11 +32,11 @@ use Rattle.demands.specs.MessageWritten.{textSizeRules, notCodable, over
 use Rattle.demands.specs.Demands.{HoldsText, Writable, Readable}
 use Rattle.demands.proofs.Steps.{octet-verdict, coding-verdict, read-given}
 
-text-accepts : (s : Service) (r : Reading) → HoldsText r → verdict (textRules s r) ≡ accepted
+pub text-accepts : (s : Service) (r : Reading) → HoldsText r → verdict (textRules s r) ≡ accepted
 unfolding textRules verdict
 text-accepts s r h = simp (h .clear, h .text, h .unmarked)
 
-text-accepted : (s : Service) (r : Reading) → verdict (textRules s r) ≡ accepted → HoldsText r
+pub text-accepted : (s : Service) (r : Reading) → verdict (textRules s r) ≡ accepted → HoldsText r
 unfolding textRules
 text-accepted s r e =
     let one = accepted-rule (r .compressed) Compressed (when (isData (r .alphabet)) NoText ∷ when (r .prefix) Prefixed ∷ []) e in

@@ -39,7 +39,7 @@ use Rattle.demands.proofs.Octets as octets
 
 -- ---- what a call that accepted its text has sent
 
-take-laid : (xs out : List ℕ) → take (length xs) (laid xs out) ≡ xs
+pub take-laid : (xs out : List ℕ) → take (length xs) (laid xs out) ≡ xs
 unfolding laid
 take-laid xs out = take-append-seam xs (drop (length xs) out)
 

@@ -72,7 +72,7 @@ read-given s o r e =
     let d : octet-read.Done r ≡ octet-read.Done (readUnder s o) = e ∙ settle-given (verdict (octetRules s o)) octet-read.Refused (octet-read.Done (readUnder s o)) (octet-verdict s o (octet-read.Done r) e) in
     sym (cc)
 
-written-given : (s : Service) (r : Reading) (o : ℕ) → octet-written.Done o ≡ octetWrites s r → smallest s r ≡ o
+pub written-given : (s : Service) (r : Reading) (o : ℕ) → octet-written.Done o ≡ octetWrites s r → smallest s r ≡ o
 unfolding octetWrites
 written-given s r o e =
     let d : octet-written.Done o ≡ octet-written.Done (smallest s r) = e ∙ settle-given (verdict (codingRules s r)) octet-written.Refused (octet-written.Done (smallest s r)) (coding-verdict s r (octet-written.Done o) e) in
@@ -128,11 +128,11 @@ units-settle accepted n s coding = refl
 abbrev pub heldAs : Bool → Held
 heldAs ucs2 = cond ucs2 held.Units held.Septets
 
-told-text : (ucs2 : Bool) → heldTold (heldAs ucs2) ≡ accepted
+pub told-text : (ucs2 : Bool) → heldTold (heldAs ucs2) ≡ accepted
 told-text true = refl
 told-text false = refl
 
-holds-text : (s : Service) (r : Reading) (ucs2 : Bool) → heldAs ucs2 ≡ holdsText s r → isUcs2 (r .alphabet) ≡ ucs2
+pub holds-text : (s : Service) (r : Reading) (ucs2 : Bool) → heldAs ucs2 ≡ holdsText s r → isUcs2 (r .alphabet) ≡ ucs2
 unfolding holdsText
 holds-text s r ucs2 e =
     which ucs2 (isUcs2 (r .alphabet)) (e ∙ settle-given (verdict (textRules s r)) held.Refused (heldAs (isUcs2 (r .alphabet))) (held-verdict s r (heldAs ucs2) e ∙ told-text ucs2))

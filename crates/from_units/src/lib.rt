@@ -1,7 +1,7 @@
 // UCS2 units into octets under each service: high octet first, and the page of 41 units.
 ghost use mathlib.Core.Path.{_≡_};
 ghost use Prim.Native.Nat.{_≤_};
-ghost use lib.ListN.{length};
+ghost use lib.ListN.{length, take};
 ghost use Rattle.stream.specs.Ucs2.{unitOctets, unitPage};
 ghost use Rattle.stream.specs.UnitCalls.{toOctetsAnswers, toOctetsLeaves};
 ghost use Rattle.stream.specs.Inner.{givenAnswers, givenLeaves};
@@ -72,4 +72,15 @@ fn put_page(units: &[u16], out: &mut [u8]) -> Filled
 {
     let page = lay(units);
     put_units(&page, out)
+}
+
+// The octets of the page of a text, by value. What is over 41 units is left out. It refuses nothing.
+pub fn page_octets(units: &[u16]) -> [u8; 82]
+    ensures answer { λ r. ⌜ r ≡ unitOctets (unitPage (take 41 (now (units .entry)))) ⌝ }
+{
+    let n = if units.len() < 41 { units.len() } else { 41 };
+    let page = lay(&units[..n]);
+    let mut octets = [0u8; 82];
+    put_units(&page, &mut octets);
+    octets
 }

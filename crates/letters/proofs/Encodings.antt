@@ -16,8 +16,8 @@ use Rattle.letters.specs.declared.Listed.{Listed}
 use Rattle.letters.specs.declared.Listed.the-variants.{Main, Extension}
 use Rattle.letters.specs.declared.Encoded.{Encoded}
 use Rattle.letters.specs.Tables.{escape}
-use Rattle.letters.specs.Writing.{listedAs, isUnlisted, septetsFor, septetsOf, firstUnlisted}
-use Rattle.letters.specs.Inner.{OwnFrom, listedFront, encodedAs, encodedLeaves}
+use Rattle.letters.specs.Writing.{listedAs, isUnlisted, septetsFor, septetsOf, firstUnlisted, listedFront, encodedAs, encodedLeaves}
+use Rattle.letters.specs.Inner.{OwnFrom}
 use Rattle.letters.proofs.OwnCodes.{own-septets, Begun, begun-long}
 use Rattle.letters.proofs.Theorems.{Codable, codable-front, septets-append, septets-last}
 

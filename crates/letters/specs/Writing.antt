@@ -1,6 +1,6 @@
 -- Document 01, "The alphabet" and "Refusal numbers and their order": text to septets. "Writing uses the one code, or escape and code, listed
 -- for the unit." Text to septets alone: 6, 7.
--- Own rule: none. Cited by find, entry_of, gather, septets_in and text_to_septets. Assumes nothing.
+-- Own rule: none. Cited by find, entry_of, encode, gather, septets_in and text_to_septets. Assumes nothing.
 --   listedIn p unit          == where a pair of tables lists the unit: the code of the main table, the code after an escape, or nowhere
 --   listedAs unit            == where the printed tables list it; so too septetsOf and firstUnlisted are septetsIn and firstUnlistedIn at the printed pair
 --   entryFor listed          == that in one number: the code, 80 and the code after an escape, or FF for nowhere
@@ -10,6 +10,9 @@
 --   isUnlisted listed        == whether it is nowhere
 --   firstUnlisted text       == the place of the first unlisted unit, and the length of the text where there is none
 --   unlistedRule text        == 6: the text has an unlisted unit
+--   listedFront text         == the units before the first unlisted one
+--   encodedAs text           == what encode answers: how many units those are, and how many septets they take
+--   encodedLeaves text out   == what it leaves in the lent buffer: their septets at its front, as many as there is room for
 --   gatherRules text         == the refusals of gather: 6, and 5 for more septets than its array holds, which is over the size of every service
 --   gatheredAs text          == what gather answers: how many septets there are, and they at the front of zeros
 --   measured text            == the number of septets, or the first unlisted unit
@@ -20,7 +23,7 @@ use Prim.Native.Nat.{ℕ, _+_}
 use mathlib.Core.Bool.{Bool, true, false, cond}
 use mathlib.Core.List.{List, [], _∷_, _++_}
 use lib.Dec.{ltb}
-use lib.ListN.{length, replicate}
+use lib.ListN.{length, take, replicate}
 use Rattle.lists.specs.Lists.{firstPlace, laid}
 use Rattle.words.specs.Judging.{Rule, when, verdict, settle}
 use Rattle.words.specs.declared.Filled.{Filled}
@@ -28,6 +31,7 @@ use Rattle.words.specs.declared.Filled.the-variants.{Done, Refused}
 use Rattle.words.specs.declared.Refusal.the-variants.{NoRoom, TooLong, Unlisted as UnlistedUnit}
 use Rattle.letters.specs.declared.Listed.{Listed}
 use Rattle.letters.specs.declared.Listed.the-variants.{Unlisted, Main, Extension}
+use Rattle.letters.specs.declared.Encoded.{Encoded}
 use Rattle.letters.specs.declared.Gathered.{Gathered}
 use Rattle.letters.specs.declared.Measured.{Measured}
 use Rattle.letters.specs.declared.Measured.the-variants.{Septets, Stopped}
@@ -76,6 +80,15 @@ firstUnlisted text = firstUnlistedIn default text
 
 abbrev pub unlistedRule : List ℕ → Rule
 unlistedRule text = when (ltb (firstUnlisted text) (length text)) (UnlistedUnit (firstUnlisted text))
+
+unfoldable pub listedFront : List ℕ → List ℕ
+listedFront text = take (firstUnlisted text) text
+
+unfoldable pub encodedAs : List ℕ → Encoded
+encodedAs text = record { units = firstUnlisted text; septets = length (septetsOf (listedFront text)) }
+
+unfoldable pub encodedLeaves : List ℕ → List ℕ → List ℕ
+encodedLeaves text out = laid (take (length out) (septetsOf (listedFront text))) out
 
 unfoldable pub gatherRules : List ℕ → List Rule
 gatherRules text = unlistedRule text ∷ when (ltb 184 (length (septetsOf text))) TooLong ∷ []

@@ -3,12 +3,20 @@
 use mathlib.Core.Path.{_∙_, sym}
 use denote.Ref.{now}
 use Rattle.words.proofs.Unique.{OneAnswer, OneBuffer}
+use Rattle.to_septets.proofs.encode.Kinds as encode-kinds
+use Rattle.to_septets.proofs.encode.Reads as encode
 use Rattle.to_septets.proofs.gather.Kinds as gather-kinds
 use Rattle.to_septets.proofs.gather.Reads as gather
 use Rattle.to_septets.proofs.septets_in.Kinds as septets-in-kinds
 use Rattle.to_septets.proofs.septets_in.Reads as septets-in
 use Rattle.to_septets.proofs.text_to_septets.Kinds as text-to-septets-kinds
 use Rattle.to_septets.proofs.text_to_septets.Reads as text-to-septets
+
+pub encode-unique : OneAnswer encode-kinds.ps encode-kinds.r encode.Post
+encode-unique κs a x y u v p q = p .0 ∙ sym (q .0)
+
+pub encode-buffer-unique : OneBuffer encode-kinds.ps encode-kinds.r (λ κs u. now (u .1 .0)) encode.Post
+encode-buffer-unique κs a x y u v p q = p .1 ∙ sym (q .1)
 
 pub gather-unique : OneAnswer gather-kinds.ps gather-kinds.r gather.Post
 gather-unique κs a x y u v p q = p ∙ sym q

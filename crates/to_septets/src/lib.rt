@@ -5,8 +5,8 @@ ghost use lib.ListN.{length};
 ghost use Rattle.words.specs.declared.Refusal.{Refusal};
 ghost use Rattle.words.specs.declared.Filled.the-variants.{Done, Refused};
 ghost use Rattle.words.specs.Judging.{verdict, settle};
-ghost use Rattle.letters.specs.Writing.{gatheredAs, measured, septetsAnswers, septetsLeaves};
-ghost use Rattle.letters.specs.Inner.{encodedAs, encodedLeaves, toldRules};
+ghost use Rattle.letters.specs.Writing.{encodedAs, encodedLeaves, gatheredAs, measured, septetsAnswers, septetsLeaves};
+ghost use Rattle.letters.specs.Inner.{toldRules};
 use letters::Encoded;
 use letters::Gathered;
 use letters::Measured;
@@ -93,7 +93,7 @@ pub fn text_to_septets(text: &[u16], out: &mut [u8]) -> Filled
 
 // Text to septets, as many as there is room for: how many units come before the first unlisted one, and how many septets those take.
 // Stores the septets at the front of the lent buffer, as far as they fit. It refuses nothing.
-fn encode(text: &[u16], out: &mut [u8]) -> Encoded
+pub fn encode(text: &[u16], out: &mut [u8]) -> Encoded
     ensures answer { λ r. ⌜ r ≡ encodedAs (now (text .entry)) ⌝ }
     ensures buffer { λ r. ⌜ now (out .exit) ≡ encodedLeaves (now (text .entry)) (now (out .entry)) ⌝ }
 {

@@ -3,6 +3,8 @@
 use mathlib.Core.Path.{_∙_, sym}
 use denote.Ref.{now}
 use Rattle.words.proofs.Unique.{OneAnswer, OneBuffer}
+use Rattle.to_units.proofs.lay_units.Kinds as lay-units-kinds
+use Rattle.to_units.proofs.lay_units.Reads as lay-units
 use Rattle.to_units.proofs.octets_to_units.Kinds as to-units-kinds
 use Rattle.to_units.proofs.octets_to_units.Reads as to-units
 
@@ -11,3 +13,9 @@ octets-to-units-unique κs a x y u v p q = p .0 ∙ sym (q .0)
 
 pub octets-to-units-buffer-unique : OneBuffer to-units-kinds.ps to-units-kinds.r (λ κs u. now (u .1 .1 .1 .0)) to-units.Post
 octets-to-units-buffer-unique κs a x y u v p q = p .1 ∙ sym (q .1)
+
+pub lay-units-unique : OneAnswer lay-units-kinds.ps lay-units-kinds.r lay-units.Post
+lay-units-unique κs a x y u v p q = p .0 ∙ sym (q .0)
+
+pub lay-units-buffer-unique : OneBuffer lay-units-kinds.ps lay-units-kinds.r (λ κs u. now (u .1 .0)) lay-units.Post
+lay-units-buffer-unique κs a x y u v p q = p .1 ∙ sym (q .1)

@@ -8,6 +8,7 @@ ghost use Rattle.lists.specs.Closing.{withoutClosing};
 ghost use Rattle.stream.specs.Ucs2.{octetUnits};
 ghost use Rattle.stream.specs.UnitCalls.{unitsFit, toUnitsAnswers, toUnitsLeaves};
 ghost use Rattle.stream.specs.Inner.{givenAnswers, givenLeaves};
+ghost use Rattle.to_units.specs.Laying.{laidCount, laidUnits};
 use words::Filled;
 use words::Refusal;
 use words::Service;
@@ -28,6 +29,21 @@ pub fn octets_to_units(service: Service, octets: &[u8], count: usize, out: &mut 
         Service::Ussd => get_units(octets, octets.len() / 2, out),
         Service::OldPage => Filled::Refused(Refusal::WrongLength),
     }
+}
+
+// Lays all units that octets hold over the front of out, closing ones too, as far as there is room: how many. It refuses nothing.
+pub fn lay_units(octets: &[u8], out: &mut [u16]) -> usize
+    ensures answer { λ r. ⌜ r ≡ laidCount (now (octets .entry)) (length (now (out .entry))) ⌝ }
+    ensures buffer { λ r. ⌜ now (out .exit) ≡ laidUnits (now (octets .entry)) (now (out .entry)) ⌝ }
+{
+    let held = octets.len() / 2;
+    let n = if out.len() < held { out.len() } else { held };
+    let mut i: usize = 0;
+    while i < n {
+        out[i] = unit_at(octets, i);
+        i += 1;
+    }
+    n
 }
 
 // Whether so many octets fit the service and the count. An odd number fits none: a page has 82.

@@ -107,7 +107,7 @@ pub enum Refusal {
     Unwritable,
     // 9: a given septet is 128 or more; the first such septet.
     NoSeptet { septet: usize },
-    // 10: the pages or parts are not those of one message. Not given yet.
+    // 10: the pages or parts are not those of one message.
     WrongPages,
     // 11: the language letters are not two letters and what follows them. Not given yet.
     WrongLetters,

@@ -3,6 +3,10 @@
 use mathlib.Core.Path.{_∙_, sym}
 use denote.Ref.{now}
 use Rattle.words.proofs.Unique.{OneAnswer, OneBuffer}
+use Rattle.writer.proofs.TextCoding.octet.Kinds as octet-kinds
+use Rattle.writer.proofs.TextCoding.octet.Reads as octet
+use Rattle.writer.proofs.TextCoding.ucs2.Kinds as ucs2-kinds
+use Rattle.writer.proofs.TextCoding.ucs2.Reads as ucs2
 use Rattle.writer.proofs.write_message.Kinds as write-kinds
 use Rattle.writer.proofs.write_message.Reads as write
 use Rattle.writer.proofs.settle.Kinds as settle-kinds
@@ -11,6 +15,12 @@ use Rattle.writer.proofs.settle_plain.Kinds as settle-plain-kinds
 use Rattle.writer.proofs.settle_plain.Reads as settle-plain
 use Rattle.writer.proofs.write_settled.Kinds as write-settled-kinds
 use Rattle.writer.proofs.write_settled.Reads as write-settled
+
+pub octet-unique : OneAnswer octet-kinds.ps octet-kinds.r octet.Post
+octet-unique κs a x y u v p q = p ∙ sym q
+
+pub ucs2-unique : OneAnswer ucs2-kinds.ps ucs2-kinds.r ucs2.Post
+ucs2-unique κs a x y u v p q = p ∙ sym q
 
 pub write-message-unique : OneAnswer write-kinds.ps write-kinds.r write.Post
 write-message-unique κs a x y u v p q = p .0 ∙ sym (q .0)

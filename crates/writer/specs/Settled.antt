@@ -1,11 +1,12 @@
 -- What is settled of a text before it is seen: by its reading the coding octet, and whether it is UCS2 (8, 1, 2, 3); then the text is
 -- written (6, 5, 7). The whole writer is the two together (proofs/Settling.antt, settled-writes).
--- Own rule: none. Cited by settle, settle_plain and write_settled. Assumes nothing.
+-- Own rule: none. Cited by settle, settle_plain, write_settled and the methods of TextCoding. Assumes nothing.
+--   octetIn, ucs2In              == the coding octet of what is settled, and whether it is UCS2
 --   heldSettled, settledBy       == what is settled, by the coding octet that a reading is written with, and by the text that it holds
 --   settledAs service r          == what the reading r settles under the service
 --   settledWrites, settledLeaves == what write_settled answers, and what it leaves in the lent buffer
 use Prim.Native.Nat.{ℕ}
-use mathlib.Core.Bool.{true, false}
+use mathlib.Core.Bool.{Bool, true, false}
 use mathlib.Core.List.{List}
 use Rattle.words.specs.declared.Service.{Service}
 use Rattle.coding.specs.declared.Reading.{Reading}
@@ -18,8 +19,16 @@ use Rattle.coding.specs.Holding.{holdsText}
 use Rattle.demands.specs.declared.MessageWritten.{MessageWritten}
 use Rattle.demands.specs.declared.MessageWritten.the-variants as written
 use Rattle.demands.specs.MessageWritten.{textWrites, textWriteLeaves}
+use Rattle.writer.specs.declared.TextCoding.{TextCoding}
 use Rattle.writer.specs.declared.Settled.{Settled}
 use Rattle.writer.specs.declared.Settled.the-variants as settled
+
+-- the fields of a text's coding
+abbrev pub octetIn : TextCoding → ℕ
+octetIn c = c .octet
+
+abbrev pub ucs2In : TextCoding → Bool
+ucs2In c = c .ucs2
 
 abbrev pub heldSettled : Service → ℕ → Held → Settled
 heldSettled service octet held.Septets = settled.Text (record { service = service; octet = octet; ucs2 = false })

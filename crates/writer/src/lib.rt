@@ -6,7 +6,7 @@ ghost use Rattle.words.specs.Sizes.{isOldPage};
 ghost use Rattle.coding.specs.Readings.{plainIn};
 ghost use Rattle.demands.specs.MessageWritten.{textWrites, textWriteLeaves, writeAnswers, writeLeaves};
 ghost use Rattle.demands.specs.Inner.{packedAs, unitsAs};
-ghost use Rattle.writer.specs.Settled.{heldSettled, settledAs, settledWrites, settledLeaves};
+ghost use Rattle.writer.specs.Settled.{octetIn, ucs2In, heldSettled, settledAs, settledWrites, settledLeaves};
 use coding::Held;
 use coding::OctetWritten;
 use coding::Reading;
@@ -21,6 +21,22 @@ pub struct TextCoding {
     service: Service,
     octet: u8,
     ucs2: bool,
+}
+
+impl TextCoding {
+    // The coding octet.
+    pub fn octet(self) -> u8
+        ensures answer { λ r. ⌜ r ≡ octetIn self ⌝ }
+    {
+        self.octet
+    }
+
+    // Whether the text is UCS2.
+    pub fn ucs2(self) -> bool
+        ensures answer { λ r. ⌜ r ≡ ucs2In self ⌝ }
+    {
+        self.ucs2
+    }
 }
 
 // What settles how a text is written.
