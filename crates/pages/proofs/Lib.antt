@@ -1,0 +1,13 @@
+pub mod Parts
+pub mod Blocks
+pub mod Steps
+pub mod Accepting
+pub mod Placing
+pub mod Table
+pub mod Joining
+pub mod Contents
+pub mod Orders
+pub mod Demands
+pub mod Refusing
+pub mod Examples
+pub mod Rooms

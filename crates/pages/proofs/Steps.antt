@@ -1,0 +1,321 @@
+-- How the calls that count, build and write pages come to their verdict, one step after the other. Assumes nothing.
+--   paged-over, paged-none, paged-some      how many pages n take, by the code's own sums
+--   sized-units, sized-septets, sized-unlisted   the verdict on a text by itself: 6, 5
+--   chosen-text, chosen-none, chosen-refused     what stands behind 8, 1, 2, 3
+use mathlib.Core.Path.{_≡_, refl, ap, ap₂, _∙_, sym, subst}
+use mathlib.Core.Bool.{Bool, true, false, cond, _||_}
+use mathlib.Core.List.{List, [], _∷_, _++_}
+use mathlib.Core.Logic.{inl, inr}
+use Prim.Native.Nat.{ℕ, suc, _+_, _-_, _*_, _/_, _%_, _≤_, _<_}
+use native.Mathlib.Nat.{div-add-mod', mod-lt, mul-comm, mul-zero, mul-suc, mul-le-mul-left, lt-of-mul-lt-mul-left}
+use native.Mathlib.Decide.{decLe}
+use native.Mathlib.Omega.{arith}
+use borrow.Author.Tests.{lt-ltb, le-ltb, ltb-false, eq-eqb}
+use lib.Dec.{ltb, leb, eqb, lit<}
+use lib.ListN.{length, take, drop}
+use lib.Seq.{take-all}
+use Rattle.lists.specs.Lists.{firstPlace, laid}
+use Rattle.lists.proofs.Below.{Below}
+use Rattle.lists.proofs.Laid.{laid-length, laid-full}
+use Rattle.letters.proofs.Theorems.{septets-below}
+use Rattle.words.specs.declared.Service.{Service}
+use Rattle.words.specs.declared.Refusal.{Refusal}
+use Rattle.words.specs.declared.Refusal.the-variants.{Unlisted, TooLong, NoRoom, WrongPages}
+use Rattle.words.specs.Judging.{Rule, when, Verdict, verdict, refused, accepted}
+use Rattle.words.proofs.Judging.{verdict-refused-first, verdict-accepted-first, accepted-rule, settle-told, settle-given}
+use Rattle.coding.specs.declared.Reading.{Reading}
+use Rattle.coding.specs.declared.Held.the-variants as held
+use Rattle.coding.specs.declared.OctetWritten.the-variants as octet-written
+use Rattle.coding.specs.OctetWritten.{octetWrites, writeRules as codingRules}
+use Rattle.coding.specs.Holding.{textRules, holdsText}
+use Rattle.letters.specs.declared.Encoded.{Encoded}
+use Rattle.letters.specs.declared.Measured.{Measured}
+use Rattle.letters.specs.declared.Measured.the-variants.{Septets, Stopped}
+use Rattle.letters.specs.Writing.{septetsOf, firstUnlisted, listedFront, encodedAs, encodedLeaves, measured}
+use Rattle.stream.specs.Stream.{packed}
+use Rattle.stream.specs.Pages.{page, pageOctets}
+use Rattle.stream.specs.ArrayCalls.{pageRules, pageLeaves}
+use Rattle.stream.proofs.Pages.{page-below}
+use Rattle.stream.proofs.Sent.{low-narrow}
+use Rattle.stream.proofs.Theorems.{page-octets-length}
+use Rattle.demands.specs.MessageWritten.{notCodable}
+use Rattle.demands.proofs.Demands.{take-laid}
+use Rattle.demands.proofs.Steps.{coding-verdict, held-verdict, heldAs, told-text}
+use Rattle.pages.specs.declared.Counted.{Counted}
+use Rattle.pages.specs.declared.Counted.the-variants.{Pages, Refused}
+use Rattle.pages.specs.declared.Built.{Built}
+use Rattle.pages.specs.declared.PagesWritten.the-variants as written
+use Rattle.pages.specs.Parts.{mostPages, pageRoom, contentOf, pagesHolding, pagesOf, partAt}
+use Rattle.pages.specs.Written.{pageBlock, blocksFrom, lacksPage, sizeRules}
+use Rattle.pages.specs.Inner.{sizedAs, pagedAs, refusedBuilt, textBuilt, textBlocks, textPages, textPagesLeaves}
+use Rattle.pages.proofs.Blocks.{blocks-length}
+use Rattle.pages.proofs.Parts.{pages-over, pages-are, pages-some, pages-hold, pages-least}
+
+-- ---- how many pages
+
+paged-are : (room n k : ℕ) → pagesHolding room n ≡ k → k ≤ 15 → pagedAs room n ≡ Pages k
+unfolding pagedAs verdict
+paged-are room n k e h = simp (e, le-ltb 15 k h)
+
+pub paged-over : (room n : ℕ) → 15 * room < n → pagedAs room n ≡ Refused TooLong
+unfolding pagedAs verdict
+paged-over room n h = simp (lt-ltb 15 (pagesHolding room n) (pages-over room n .1 (omega (arith, mul-comm room 15))))
+
+pub paged-none : (room n : ℕ) → n ≡ 0 → pagedAs room n ≡ Pages 1
+paged-none room n e = paged-are room n 1 (pages-are room n 1 (omega arith) (omega arith) (omega arith) (inl refl)) (omega arith)
+
+-- (n + room - 1) / room, the sum rounded up
+pub paged-some : (room n : ℕ) → 0 < room → 0 < n → n ≤ 15 * room → pagedAs room n ≡ Pages ((n + room - 1) / room)
+paged-some room n some few fits =
+    let k : ℕ = (n + room - 1) / room in
+    let parts : k * room + (n + room - 1) % room ≡ n + room - 1 = div-add-mod' (n + room - 1) room in
+    let left : (n + room - 1) % room < room = mod-lt (n + room - 1) some in
+    let turned : k * room ≡ room * k = mul-comm k room in
+    let most : k < 16 = lt-of-mul-lt-mul-left room {m = k} {n = 16} (omega arith) in
+    let least : 0 < k = lt-of-mul-lt-mul-left room {m = 0} {n = k} (omega (arith, mul-zero room)) in
+    let last : room * k ≡ room * (k - 1) + room = ap (λ (j : ℕ). room * j) (omega arith) ∙ mul-suc room (k - 1) in
+    paged-are room n k (pages-are room n k (omega arith) (omega arith) (omega arith) (inr (omega arith))) (omega arith)
+
+-- ---- the verdict on a text by itself
+
+pub sized-units : (units : List ℕ) → sizedAs true units ≡ pagedAs 41 (length units)
+unfolding sizedAs pagedAs sizeRules verdict
+sized-units units = refl
+
+pub sized-septets : (units : List ℕ) → length units ≤ firstUnlisted units → sizedAs false units ≡ pagedAs 93 (length (septetsOf units))
+unfolding sizedAs pagedAs sizeRules verdict
+sized-septets units h = simp (le-ltb (firstUnlisted units) (length units) h)
+
+pub sized-unlisted : (units : List ℕ) → firstUnlisted units < length units → sizedAs false units ≡ Refused (Unlisted (firstUnlisted units))
+unfolding sizedAs sizeRules verdict
+sized-unlisted units h = simp (lt-ltb (firstUnlisted units) (length units) h)
+
+-- ---- what stands behind 8, 1, 2, 3
+
+module _ (service : Service) (r : Reading) (rest : List Rule) where
+  pub chosen-text : (coding : ℕ) (ucs2 : Bool) → octet-written.Done coding ≡ octetWrites service r → heldAs ucs2 ≡ holdsText service r
+      → verdict (codingRules service r ++ (textRules service r ++ rest)) ≡ verdict rest
+  chosen-text coding ucs2 e h =
+      verdict-accepted-first (codingRules service r) (textRules service r ++ rest) (coding-verdict service r (octet-written.Done coding) e)
+      ∙ verdict-accepted-first (textRules service r) rest (held-verdict service r (heldAs ucs2) h ∙ told-text ucs2)
+
+  pub chosen-none : (coding : ℕ) (q : Refusal) → octet-written.Done coding ≡ octetWrites service r → held.Refused q ≡ holdsText service r
+      → verdict (codingRules service r ++ (textRules service r ++ rest)) ≡ refused q
+  chosen-none coding q e h =
+      verdict-accepted-first (codingRules service r) (textRules service r ++ rest) (coding-verdict service r (octet-written.Done coding) e)
+      ∙ verdict-refused-first (textRules service r) rest q (held-verdict service r (held.Refused q) h)
+
+  pub chosen-refused : (q : Refusal) → octet-written.Refused q ≡ octetWrites service r → verdict (codingRules service r ++ (textRules service r ++ rest)) ≡ refused q
+  chosen-refused q e = verdict-refused-first (codingRules service r) (textRules service r ++ rest) q (coding-verdict service r (octet-written.Refused q) e)
+
+-- ---- a text as it is measured and encoded
+
+-- how many pages a 7-bit text takes, by what it measures
+abbrev sizedBy : Measured → Counted
+sizedBy (Septets n) = pagedAs 93 n
+sizedBy (Stopped u) = Refused (Unlisted u)
+
+pub measured-sized : (t : List ℕ) (m : Measured) → m ≡ measured t → sizedBy m ≡ sizedAs false t
+unfolding measured
+measured-sized t m e = elim (decLe (length t) (firstUnlisted t)) [
+  | yes h ↦ let whole : m ≡ Septets (length (septetsOf t)) = e ∙ simp (le-ltb (firstUnlisted t) (length t) h) in ap sizedBy whole ∙ sym (sized-septets t h)
+  | no h ↦
+      let less : firstUnlisted t < length t = omega arith in
+      let stop : m ≡ Stopped (firstUnlisted t) = e ∙ simp (lt-ltb (firstUnlisted t) (length t) less) in
+      ap sizedBy stop ∙ sym (sized-unlisted t less)
+]
+
+pub encoded-stopped : (t : List ℕ) (w : Encoded) → w ≡ encodedAs t → w .units < length t → (Refused (Unlisted (w .units)) ≡ sizedAs false t) × (w .septets ≡ length (septetsOf (listedFront t)))
+unfolding encodedAs
+encoded-stopped t w e h =
+    let u : w .units ≡ firstUnlisted t = ap (λ (x : Encoded). x .units) e in
+    (ap (λ (n : ℕ). Refused (Unlisted n)) u ∙ sym (sized-unlisted t (omega arith)), ap (λ (x : Encoded). x .septets) e)
+
+-- a text without an unlisted unit is encoded whole
+pub front-whole : (t : List ℕ) → length t ≤ firstUnlisted t → listedFront t ≡ t
+unfolding listedFront
+front-whole t h = take-all (firstUnlisted t) t h
+
+pub encoded-whole : (t : List ℕ) (w : Encoded) → w ≡ encodedAs t → length t ≤ w .units → (pagedAs 93 (w .septets) ≡ sizedAs false t) × (w .septets ≡ length (septetsOf (listedFront t)))
+unfolding encodedAs
+encoded-whole t w e h =
+    let u : w .units ≡ firstUnlisted t = ap (λ (x : Encoded). x .units) e in
+    let n : w .septets ≡ length (septetsOf (listedFront t)) = ap (λ (x : Encoded). x .septets) e in
+    (ap (pagedAs 93) (n ∙ ap (λ (l : List ℕ). length (septetsOf l)) (front-whole t (omega arith))) ∙ sym (sized-septets t (omega arith)), n)
+
+-- ---- a text whose pages are counted
+
+-- what an accepted count says
+pub record Fits (ucs2 : Bool) (t : List ℕ) (total : ℕ) : Type 0 where
+  pub pages : total ≡ pagesOf ucs2 t
+  pub some : 1 ≤ total
+  pub most : total ≤ 15
+  pub holds : length (contentOf ucs2 t) ≤ pageRoom ucs2 * total
+  -- every page but the last is full
+  pub full : pageRoom ucs2 * total ≤ length (contentOf ucs2 t) + pageRoom ucs2
+  pub codable : notCodable ucs2 t ≡ false
+  pub allowed : verdict (sizeRules ucs2 t) ≡ accepted
+
+-- the verdict that an answer tells
+abbrev pub countedTold : Counted → Verdict
+countedTold (Pages n) = accepted
+countedTold (Refused q) = refused q
+
+pub sized-fits : (ucs2 : Bool) (t : List ℕ) (total : ℕ) → Pages total ≡ sizedAs ucs2 t → Fits ucs2 t total
+unfolding sizedAs sizeRules
+sized-fits ucs2 t total e =
+    let room : ℕ = pageRoom ucs2 in
+    let n : ℕ = length (contentOf ucs2 t) in
+    let v : verdict (sizeRules ucs2 t) ≡ accepted = settle-told countedTold Refused (Pages (pagesOf ucs2 t)) (λ q. refl) refl (verdict (sizeRules ucs2 t)) (Pages total) e in
+    let same : Pages total ≡ Pages (pagesOf ucs2 t) = e ∙ settle-given (verdict (sizeRules ucs2 t)) Refused (Pages (pagesOf ucs2 t)) v in
+    let pages : total ≡ pagesHolding room n = cc in
+    let first = accepted-rule (notCodable ucs2 t) (Unlisted (firstUnlisted t)) (when (ltb mostPages (pagesOf ucs2 t)) TooLong ∷ []) v in
+    let most : pagesHolding room n ≤ 15 = ltb-false mostPages (pagesHolding room n) (accepted-rule (ltb mostPages (pagesOf ucs2 t)) TooLong [] (first .1) .0) in
+    let some : 1 ≤ pagesHolding room n = pages-some room n in
+    let holds : n ≤ room * pagesHolding room n = pages-hold room n most in
+    record {
+      pages = pages;
+      some = omega arith;
+      most = omega arith;
+      holds = subst (λ (k : ℕ). n ≤ room * k) (sym pages) holds;
+      full = subst (λ (k : ℕ). room * k ≤ n + room) (sym pages) (last-begun room n (pagesHolding room n) some (pages-least room n));
+      codable = first .0;
+      allowed = v;
+    }
+  where
+    -- the last page begins within the text
+    last-begun : (room n k : ℕ) → 1 ≤ k → ((j : ℕ) → 1 ≤ j → n ≤ room * j → k ≤ j) → room * k ≤ n + room
+    last-begun room n k some least =
+        let last : room * k ≡ room * (k - 1) + room = ap (λ (j : ℕ). room * j) (omega arith) ∙ mul-suc room (k - 1) in
+        elim (decLe (room * (k - 1)) n) [
+          | yes h ↦ omega arith
+          | no h ↦ elim (decLe 2 k) [
+            | yes two ↦ absurd (omega (arith, least (k - 1) (omega arith) (omega arith)))
+            | no one ↦ let zero : room * (k - 1) ≡ 0 = ap (λ (j : ℕ). room * j) (omega arith) ∙ mul-zero room in absurd (omega arith)
+          ]
+        ]
+
+-- what a pass over a text that fits leaves: its first n septets in the array are the text's content, and of UCS2 the units are
+pub record Gathered (ucs2 : Bool) (t : List ℕ) (total n : ℕ) (a : List ℕ) : Type 0 where
+  pub fits : Fits ucs2 t total
+  pub within : n ≤ length a
+  pub low : Below 128 (take n a)
+  pub content : cond ucs2 t (take n a) ≡ contentOf ucs2 t
+
+pub gathered : (ucs2 : Bool) (t : List ℕ) (n : ℕ) (z a : List ℕ) → length z ≡ 1395 → n ≡ cond ucs2 0 (length (septetsOf (listedFront t))) → a ≡ cond ucs2 z (encodedLeaves t z)
+    → (total : ℕ) → sizedAs ucs2 t ≡ Pages total → Gathered ucs2 t total n a
+unfolding encodedLeaves
+gathered true t n z a long en ea total e =
+    record { fits = sized-fits true t total (sym e); within = omega arith; low = subst (λ (k : ℕ). Below 128 (take k a)) (sym en) (λ k. lit< tt); content = refl }
+gathered false t n z a long en ea total e =
+    let f : Fits false t total = sized-fits false t total (sym e) in
+    let s : List ℕ = septetsOf (listedFront t) in
+    let whole : listedFront t ≡ t = front-whole t (ltb-false (firstUnlisted t) (length t) (f .codable)) in
+    let same : s ≡ septetsOf t = ap septetsOf whole in
+    let few : length s ≤ length z = omega (arith, f .holds, f .most, ap length same) in
+    let laid-s : a ≡ laid s z = ea ∙ ap (λ (l : List ℕ). laid l z) (take-all (length z) s few) in
+    let front : take n a ≡ s = ap₂ take en laid-s ∙ take-laid s z in
+    record { fits = f; within = omega (arith, ap length laid-s, laid-length s z few); low = subst (Below 128) (sym front) (septets-below (listedFront t)); content = front ∙ same }
+
+-- ---- the text of one page
+
+-- the part of page k, counted from 0
+pub part-from : (room k : ℕ) (s : List ℕ) → take room (drop (room * k) s) ≡ partAt room s (k + 1)
+unfolding partAt
+part-from room k s = let same : k ≡ k + 1 - 1 = omega arith in ap (λ (j : ℕ). take room (drop (room * j) s)) same
+
+-- a page that is packed into 82 octets
+pub page-left : (s out : List ℕ) → length s ≤ 93 → Below 128 s → length out ≡ 82 → pageLeaves (page s) out ≡ pageOctets s
+unfolding pageLeaves pageRules pageOctets verdict
+page-left s out few low long =
+    let full : length (packed (page s)) ≡ 82 = page-octets-length s few in
+    simp (le-ltb (firstPlace (leb 128) (page s)) (length (page s)) (low-narrow (page s) (page-below s low)), le-ltb (length out) (length (packed (page s))) (omega arith))
+    (laid-full (packed (page s)) out (omega arith))
+
+-- page k begins within a text whose pages but the last are full
+pub page-within : (room k total n : ℕ) → k < total → room * total ≤ n + room → room * k ≤ n
+page-within room k total n less full = omega (arith, mul-suc room k, mul-le-mul-left {m = suc k} {n = total} room less)
+
+-- ---- one page and all pages of a text by itself
+
+sized-refused : (ucs2 : Bool) (t : List ℕ) (q : Refusal) → Refused q ≡ sizedAs ucs2 t → verdict (sizeRules ucs2 t) ≡ refused q
+unfolding sizedAs
+sized-refused ucs2 t q e = settle-told countedTold Refused (Pages (pagesOf ucs2 t)) (λ q. refl) refl (verdict (sizeRules ucs2 t)) (Refused q) e
+
+module _ (sequence identifier coding : ℕ) (ucs2 : Bool) (t : List ℕ) where
+  pub built-refused : (k : ℕ) (q : Refusal) → Refused q ≡ sizedAs ucs2 t → refusedBuilt q ≡ textBuilt sequence identifier coding ucs2 t k
+  unfolding textBuilt
+  built-refused k q e =
+      let x : List Rule = when (lacksPage (pagesOf ucs2 t) k) WrongPages ∷ [] in
+      let v : verdict (sizeRules ucs2 t ++ x) ≡ refused q = verdict-refused-first (sizeRules ucs2 t) x q (sized-refused ucs2 t q e) in
+      sym (simp v)
+
+  pub pages-refused : (out : List ℕ) (q : Refusal) → Refused q ≡ sizedAs ucs2 t
+      → (written.Refused q ≡ textPages sequence identifier coding ucs2 t (length out)) × (out ≡ textPagesLeaves sequence identifier coding ucs2 t out)
+  unfolding textPages textPagesLeaves
+  pages-refused out q e =
+      let x : List Rule = when (ltb (length out) (length (textBlocks sequence identifier coding ucs2 t))) NoRoom ∷ [] in
+      let v : verdict (sizeRules ucs2 t ++ x) ≡ refused q = verdict-refused-first (sizeRules ucs2 t) x q (sized-refused ucs2 t q e) in
+      (sym (simp v), sym (simp v))
+
+  -- page k of so many
+  abbrev made : ℕ → ℕ → Built
+  made total k = record { answer = Pages total; block = pageBlock sequence identifier coding total ucs2 (contentOf ucs2 t) k }
+
+  module _ (total : ℕ) (f : Fits ucs2 t total) where
+    pub built-lacks : (k : ℕ) → lacksPage total k ≡ true → refusedBuilt WrongPages ≡ textBuilt sequence identifier coding ucs2 t k
+    unfolding textBuilt verdict
+    built-lacks k e =
+        let x : List Rule = when (lacksPage (pagesOf ucs2 t) k) WrongPages ∷ [] in
+        let lacks : lacksPage (pagesOf ucs2 t) k ≡ true = ap (λ (n : ℕ). lacksPage n k) (sym (f .pages)) ∙ e in
+        let v : verdict (sizeRules ucs2 t ++ x) ≡ refused WrongPages = verdict-accepted-first (sizeRules ucs2 t) x (f .allowed) ∙ simp lacks in
+        sym (simp v)
+
+    pub built-page : (k : ℕ) → lacksPage total k ≡ false
+        → made total k ≡ textBuilt sequence identifier coding ucs2 t k
+    unfolding textBuilt verdict
+    built-page k e =
+        let x : List Rule = when (lacksPage (pagesOf ucs2 t) k) WrongPages ∷ [] in
+        let there : lacksPage (pagesOf ucs2 t) k ≡ false = ap (λ (n : ℕ). lacksPage n k) (sym (f .pages)) ∙ e in
+        let v : verdict (sizeRules ucs2 t ++ x) ≡ accepted = verdict-accepted-first (sizeRules ucs2 t) x (f .allowed) ∙ simp there in
+        ap (λ (n : ℕ). made n k) (f .pages) ∙ sym (simp v)
+
+    -- the blocks by the count
+    blocks-by : blocksFrom sequence identifier coding total ucs2 (contentOf ucs2 t) 1 total ≡ textBlocks sequence identifier coding ucs2 t
+    blocks-by = ap (λ (n : ℕ). blocksFrom sequence identifier coding n ucs2 (contentOf ucs2 t) 1 n) (f .pages)
+
+    long : length (textBlocks sequence identifier coding ucs2 t) ≡ 88 * total
+    long = ap length (sym blocks-by) ∙ blocks-length sequence identifier coding total ucs2 (contentOf ucs2 t) 1 total
+
+    pub pages-short : (out : List ℕ) → length out < 88 * total
+        → (written.Refused NoRoom ≡ textPages sequence identifier coding ucs2 t (length out)) × (out ≡ textPagesLeaves sequence identifier coding ucs2 t out)
+    unfolding textPages textPagesLeaves verdict
+    pages-short out h =
+        let b : List ℕ = textBlocks sequence identifier coding ucs2 t in
+        let x : List Rule = when (ltb (length out) (length b)) NoRoom ∷ [] in
+        let less : ltb (length out) (length b) ≡ true = lt-ltb (length out) (length b) (omega (arith, long)) in
+        let v : verdict (sizeRules ucs2 t ++ x) ≡ refused NoRoom = verdict-accepted-first (sizeRules ucs2 t) x (f .allowed) ∙ simp less in
+        (sym (simp v), sym (simp v))
+
+    pub pages-stored : (out : List ℕ) → 88 * total ≤ length out
+        → (written.Done (88 * total) total ≡ textPages sequence identifier coding ucs2 t (length out))
+        × (laid (blocksFrom sequence identifier coding total ucs2 (contentOf ucs2 t) 1 total) out ≡ textPagesLeaves sequence identifier coding ucs2 t out)
+    unfolding textPages textPagesLeaves verdict
+    pages-stored out h =
+        let b : List ℕ = textBlocks sequence identifier coding ucs2 t in
+        let x : List Rule = when (ltb (length out) (length b)) NoRoom ∷ [] in
+        let room : ltb (length out) (length b) ≡ false = le-ltb (length out) (length b) (omega (arith, long)) in
+        let v : verdict (sizeRules ucs2 t ++ x) ≡ accepted = verdict-accepted-first (sizeRules ucs2 t) x (f .allowed) ∙ simp room in
+        (ap₂ written.Done (sym long) (f .pages) ∙ sym (simp v), ap (λ (l : List ℕ). laid l out) blocks-by ∙ sym (simp v))
+
+-- ---- which pages a message has, as the code asks
+
+pub lacks-none-first : (total k : ℕ) → k ≡ 0 → lacksPage total k ≡ true
+lacks-none-first total k e = simp (eq-eqb k 0 e)
+
+pub lacks-above : (total k : ℕ) → ltb total k ≡ true → lacksPage total k ≡ true
+lacks-above total k e = simp e (either (eqb k 0))
+  where
+    either : (b : Bool) → (b || true) ≡ true
+    either true = refl
+    either false = refl
