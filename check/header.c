@@ -1,6 +1,6 @@
 /*
- * What stands in include/wikuay.h alone: the version, and the names and texts of the refusals. Prints the number and the text of each
- * refusal that is given today. C99 and C++11.
+ * What stands in include/wikuay.h alone: the version, sizes, and the names and texts of the refusals. Prints the number
+ * and the text of each refusal that is given today. C99 and C++11.
  */
 #include <stdio.h>
 #include <string.h>
@@ -29,7 +29,7 @@ static const struct {
     NAMED(WIKUAY_REFUSED_NO_TABLE),
     NAMED(WIKUAY_REFUSED_ILL_FORMED),
 };
-enum { KNOWN = sizeof refusals / sizeof refusals[0], GIVEN = 9 };
+enum { KNOWN = sizeof refusals / sizeof refusals[0], GIVEN = 10 };
 
 static int differ(const char *what, const char *got, const char *expected) {
   if (strcmp(got, expected) == 0) return 0;
@@ -45,6 +45,13 @@ int main(void) {
 #if WIKUAY_VERSION_NUMBER < 100 || WIKUAY_VERSION_NUMBER > 999999
 #error "WIKUAY_VERSION_NUMBER is wrong"
 #endif
+#if WIKUAY_PAGES_OCTETS != WIKUAY_MOST_PAGES * WIKUAY_BLOCK_OCTETS || WIKUAY_BLOCK_OCTETS != 6 + WIKUAY_BROADCAST_OCTETS
+#error "the octets of pages are wrong"
+#endif
+#if WIKUAY_PAGES_UNITS != WIKUAY_MOST_PAGES * WIKUAY_BROADCAST_SEPTETS
+#error "WIKUAY_PAGES_UNITS is wrong"
+#endif
+  if (sizeof(wikuay_block) != WIKUAY_BLOCK_OCTETS) faults += differ("a block", "padded", "88 octets");
   for (uint32_t n = 0; n < KNOWN; n++) {
     if (refusals[n].number != n) faults += differ("the order of the constants", refusals[n].name, "another");
     faults += differ("name", wikuay_refusal_name(n), refusals[n].name);

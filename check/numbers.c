@@ -2,9 +2,10 @@
  * numbers.c: every number that can cross include/wikuay.h in the place of a service or of a field of a reading.
  *
  * The vectors name services and fields by words, so that they cannot ask what a number does that names nothing. Here
- * every service number of a wide range, and every number of every field, is handed to every call that takes one. The
- * version of the library must be that of the header. It prints how many answers were judged and how many are wrong;
- * the exit status is 1 if one is. C99 and C++11.
+ * every service number of a wide range, and every number of every field, is handed to every call that takes one. So is
+ * every sequence number and message identifier, every page parameter, and page numbers of a wide range. The version of
+ * the library must be that of the header. It prints how many answers were judged and how many are wrong; the exit
+ * status is 1 if one is. C99 and C++11.
  */
 #include <stdio.h>
 #include <string.h>
@@ -34,6 +35,29 @@ static int is_8(wikuay_answer a) {
 static int read_is_8(wikuay_read_answer a) {
   return a.refusal == WIKUAY_REFUSED_UNWRITABLE && a.position == 0 && a.written == 0 && a.holds == 0 &&
          same(a.reading, wikuay_plain());
+}
+
+/* The same of the calls with pages: a refusal with this number. */
+static int pages_refused(wikuay_pages_answer a, uint32_t refusal) {
+  return a.refusal == refusal && a.pages == 0 && a.position == 0 && a.written == 0;
+}
+
+static int page_refused(wikuay_page_answer a, uint32_t refusal) {
+  size_t at;
+  for (at = 0; at < WIKUAY_BLOCK_OCTETS; at++)
+    if (a.block.octets[at] != 0) return 0;
+  return a.refusal == refusal && a.pages == 0 && a.position == 0;
+}
+
+static int join_refused(wikuay_join_answer a, uint32_t refusal) {
+  return a.refusal == refusal && a.pages == 0 && a.position == 0 && a.written == 0 && a.sequence == 0 &&
+         a.identifier == 0 && same(a.reading, wikuay_plain());
+}
+
+static int all_are(const void *memory, size_t size, uint8_t octet) {
+  const uint8_t *at = (const uint8_t *)memory;
+  while (size && *at == octet) at++, size--;
+  return size == 0;
 }
 
 /* A service that no number up to 3 names is refused 8 by every call, and nothing is stored. */
@@ -73,6 +97,104 @@ static void field(wikuay_reading reading, int named, const char *what, unsigned 
       judge(is_8(a), what, number);
     if (!named) judge(is_8(wikuay_write_message(service, reading, text, 1, octets, sizeof octets)), what, number);
   }
+  /* The calls with pages refuse 8 exactly what no coding octet of a broadcast page says. */
+  if (wikuay_write_coding(WIKUAY_BROADCAST, reading).refusal == 0) {
+    judge(wikuay_count_pages(reading, text, 1).refusal != WIKUAY_REFUSED_UNWRITABLE, what, number);
+    return;
+  }
+  memset(octets, 0xA5, sizeof octets);
+  judge(pages_refused(wikuay_count_pages(reading, text, 1), WIKUAY_REFUSED_UNWRITABLE), what, number);
+  judge(page_refused(wikuay_build_page(1, 2, reading, text, 1, 0), WIKUAY_REFUSED_UNWRITABLE), what, number);
+  judge(pages_refused(wikuay_write_pages(1, 2, reading, text, 1, octets, sizeof octets), WIKUAY_REFUSED_UNWRITABLE) &&
+            all_are(octets, sizeof octets, 0xA5),
+        what, number);
+}
+
+/* Page n of a message of two pages: 1 and 2 are built, and any other is refused 10. */
+static void page_number(size_t n) {
+  uint16_t text[WIKUAY_BROADCAST_SEPTETS + 1];
+  wikuay_page_answer a;
+  wikuay_block_header h;
+  size_t at;
+  for (at = 0; at <= WIKUAY_BROADCAST_SEPTETS; at++) text[at] = 'A';
+  a = wikuay_build_page(0x1234, 0xFEDC, wikuay_plain(), text, WIKUAY_BROADCAST_SEPTETS + 1, n);
+  if (n < 1 || 2 < n) {
+    judge(page_refused(a, WIKUAY_REFUSED_WRONG_PAGES), "wikuay_build_page, number", (unsigned long)n);
+    return;
+  }
+  h = wikuay_read_header(a.block);
+  judge(a.refusal == 0 && a.pages == 2 && h.sequence == 0x1234 && h.identifier == 0xFEDC && h.total == 2 &&
+            h.number == n && h.coding == wikuay_write_coding(WIKUAY_BROADCAST, wikuay_plain()).coding,
+        "wikuay_build_page, number", (unsigned long)n);
+}
+
+/* A sequence number and a message identifier, high octet first, come back from every call that tells them. */
+static void pair(uint16_t sequence, uint16_t identifier) {
+  static const uint16_t text[] = {0x0041};
+  uint8_t octets[WIKUAY_BLOCK_OCTETS];
+  uint16_t units[WIKUAY_PAGES_UNITS];
+  wikuay_page_answer a = wikuay_build_page(sequence, identifier, wikuay_plain(), text, 1, 1);
+  wikuay_block_header h = wikuay_read_header(a.block);
+  wikuay_pages_answer w = wikuay_write_pages(sequence, identifier, wikuay_plain(), text, 1, octets, sizeof octets);
+  wikuay_join_answer j = wikuay_join_pages(octets, sizeof octets, units, WIKUAY_PAGES_UNITS);
+  judge(a.refusal == 0 && a.block.octets[0] == sequence >> 8 && a.block.octets[1] == (sequence & 255) &&
+            a.block.octets[2] == identifier >> 8 && a.block.octets[3] == (identifier & 255),
+        "wikuay_build_page, sequence", sequence);
+  judge(h.sequence == sequence && h.identifier == identifier, "wikuay_read_header, sequence", sequence);
+  judge(w.refusal == 0 && w.pages == 1 && w.written == sizeof octets &&
+            memcmp(octets, a.block.octets, sizeof octets) == 0,
+        "wikuay_write_pages, sequence", sequence);
+  judge(j.refusal == 0 && j.pages == 1 && j.written == 1 && units[0] == 0x0041 && j.sequence == sequence &&
+            j.identifier == identifier,
+        "wikuay_join_pages, sequence", sequence);
+}
+
+/* A page parameter is told as it stands, and a lone block joins where it says page 1 of 1. So many octets of blocks are
+   refused 4 where they are not whole blocks. */
+static void parameter(uint8_t octet) {
+  static const uint16_t text[] = {0x0041};
+  wikuay_block block = wikuay_build_page(1, 2, wikuay_plain(), text, 1, 1).block;
+  uint8_t blocks[256];
+  uint16_t units[WIKUAY_BROADCAST_SEPTETS];
+  wikuay_block_header h;
+  wikuay_join_answer j;
+  memset(units, 0xA5, sizeof units);
+  block.octets[5] = octet;
+  h = wikuay_read_header(block);
+  judge(h.total == octet % 16 && h.number == octet / 16, "wikuay_read_header, page parameter", octet);
+  j = wikuay_join_pages(block.octets, sizeof block.octets, units, WIKUAY_BROADCAST_SEPTETS);
+  judge(octet == 0x11 ? j.refusal == 0 && j.written == 1 && all_are(units + 1, sizeof units - 2, 0xA5)
+                      : join_refused(j, WIKUAY_REFUSED_WRONG_PAGES) && all_are(units, sizeof units, 0xA5),
+        "wikuay_join_pages, page parameter", octet);
+  memset(blocks, 0, sizeof blocks);
+  memset(units, 0xA5, sizeof units);
+  j = wikuay_join_pages(blocks, octet, units, WIKUAY_BROADCAST_SEPTETS);
+  judge(join_refused(j, octet % WIKUAY_BLOCK_OCTETS ? WIKUAY_REFUSED_WRONG_LENGTH : WIKUAY_REFUSED_WRONG_PAGES) &&
+            all_are(units, sizeof units, 0xA5),
+        "wikuay_join_pages, length", octet);
+}
+
+/* The largest message takes exactly the room that the header gives, there and back. */
+static void largest(void) {
+  static uint16_t text[WIKUAY_PAGES_UNITS + 1], units[WIKUAY_PAGES_UNITS];
+  static uint8_t octets[WIKUAY_PAGES_OCTETS];
+  const size_t most = WIKUAY_PAGES_UNITS;
+  wikuay_pages_answer w;
+  wikuay_join_answer j;
+  size_t at;
+  for (at = 0; at <= most; at++) text[at] = 'A';
+  judge(pages_refused(wikuay_count_pages(wikuay_plain(), text, most + 1), WIKUAY_REFUSED_TOO_LONG), "over 15 pages",
+        (unsigned long)most + 1);
+  w = wikuay_write_pages(1, 2, wikuay_plain(), text, most, octets, sizeof octets - 1);
+  judge(pages_refused(w, WIKUAY_REFUSED_NO_ROOM), "wikuay_write_pages, room", sizeof octets - 1);
+  w = wikuay_write_pages(1, 2, wikuay_plain(), text, most, octets, sizeof octets);
+  judge(w.refusal == 0 && w.pages == WIKUAY_MOST_PAGES && w.written == sizeof octets, "wikuay_write_pages, room",
+        sizeof octets);
+  j = wikuay_join_pages(octets, sizeof octets, units, most - 1);
+  judge(join_refused(j, WIKUAY_REFUSED_NO_ROOM), "wikuay_join_pages, room", (unsigned long)most - 1);
+  j = wikuay_join_pages(octets, sizeof octets, units, most);
+  judge(j.refusal == 0 && j.pages == WIKUAY_MOST_PAGES && j.written == most && memcmp(units, text, sizeof units) == 0,
+        "wikuay_join_pages, room", (unsigned long)most);
 }
 
 /* Whether a number is that of a notice, by the sums of the header. */
@@ -114,7 +236,13 @@ int main(void) {
   for (number = 0; number < 65536; number++) {
     r = wikuay_plain(), r.notice = (uint16_t)number;
     field(r, is_notice(number), "notice", number);
+    pair((uint16_t)number, (uint16_t)(65535 - number));
   }
+  for (number = 0; number < 300; number++) page_number(number);
+  for (number = 9; number < 64; number++) page_number((size_t)1 << number), page_number(((size_t)1 << number) + 1);
+  page_number(SIZE_MAX);
+  largest();
+  for (number = 0; number < 256; number++) parameter((uint8_t)number);
   /* What an octet says, written again, is an octet that is no larger and says the same. */
   for (service = WIKUAY_SHORT_MESSAGE; service <= WIKUAY_USSD; service++)
     for (number = 0; number < 256; number++) {

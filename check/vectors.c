@@ -16,8 +16,9 @@
 
 #include "wikuay.h"
 
-#define LONGEST 8192
+#define LONGEST 16384
 #define MOST_ROOM 4096
+#define MOST_ELEMENTS (LONGEST / 2) /* octets, septets or units of a value */
 #define MOST_PARTS 16
 
 static void fail(const char *why) {
@@ -36,7 +37,7 @@ static fence new_fence(void) {
   size_t page = (size_t)sysconf(_SC_PAGESIZE), inner;
   unsigned char *all;
   fence made;
-  for (inner = page; inner < 2 * MOST_ROOM; inner += page) {
+  for (inner = page; inner < 2 * MOST_ROOM || inner < MOST_ELEMENTS; inner += page) {
   }
   all = (unsigned char *)mmap(NULL, inner + 2 * page, PROT_NONE, MAP_PRIVATE | MAP_ANONYMOUS, -1, 0);
   if (all == (unsigned char *)MAP_FAILED || mprotect(all + page, inner, PROT_READ | PROT_WRITE) != 0)
@@ -75,15 +76,16 @@ static int take_back(fence f, unsigned char *part, size_t size, int place) {
 /* ---- Values of a case. */
 
 typedef struct {
-  unsigned char octets[MOST_ROOM]; /* elements of one octet */
-  uint16_t units[MOST_ROOM];       /* elements of one unit */
+  unsigned char octets[MOST_ELEMENTS]; /* elements of one octet */
+  uint16_t units[MOST_ROOM];           /* elements of one unit */
   size_t length;
 } run;
 
 typedef struct {
-  uint32_t service, count, room, refusal, position, written, holds;
+  uint32_t service, count, room, refusal, position, written, holds, sequence, identifier, pages, total, number;
   unsigned coding;
   wikuay_reading reading;
+  wikuay_block block;
   run given, out;
 } values;
 
@@ -221,7 +223,7 @@ static int parse_elements(const char *text, size_t digits, run *elements) {
   size_t length = strlen(text), at, k;
   elements->length = 0;
   if (strcmp(text, "-") == 0) return 1;
-  if (length == 0 || length % digits != 0 || length / digits > MOST_ROOM) return 0;
+  if (length == 0 || length % digits != 0 || length > LONGEST) return 0;
   for (at = 0; at < length; at += digits) {
     unsigned element = 0;
     for (k = 0; k < digits; k++) {
@@ -244,6 +246,17 @@ static void print_elements(const run *elements, size_t digits) {
   if (elements->length == 0) printf("-");
 }
 
+static int parse_block(const char *text, wikuay_block *block) {
+  size_t at;
+  if (strlen(text) != 2 * WIKUAY_BLOCK_OCTETS) return 0;
+  for (at = 0; at < WIKUAY_BLOCK_OCTETS; at++) {
+    int high = digit(text[2 * at]), low = digit(text[2 * at + 1]);
+    if (high < 0 || low < 0) return 0;
+    block->octets[at] = (uint8_t)(16 * high + low);
+  }
+  return 1;
+}
+
 static int same_elements(const run *a, const run *b, size_t digits) {
   if (a->length != b->length) return 0;
   return digits == 2 ? memcmp(a->octets, b->octets, a->length) == 0
@@ -252,7 +265,23 @@ static int same_elements(const run *a, const run *b, size_t digits) {
 
 /* ---- Calls and their keys. */
 
-enum { READ_CODING, WRITE_CODING, HOLDS_TEXT, PACK, UNPACK, TO_SEPTETS, TO_TEXT, READ_MESSAGE, WRITE_MESSAGE, CALLS };
+enum {
+  READ_CODING,
+  WRITE_CODING,
+  HOLDS_TEXT,
+  PACK,
+  UNPACK,
+  TO_SEPTETS,
+  TO_TEXT,
+  READ_MESSAGE,
+  WRITE_MESSAGE,
+  READ_HEADER,
+  COUNT_PAGES,
+  BUILD_PAGE,
+  WRITE_PAGES,
+  JOIN_PAGES,
+  CALLS
+};
 
 typedef struct {
   const char *name;
@@ -271,10 +300,22 @@ static const call calls[CALLS] = {
     {"septets-to-text", "septets room ", "refusal position written out ", 4},
     {"read-message", "service coding count octets room ", "refusal position written reading out ", 4},
     {"write-message", "service reading text room ", "refusal position written count coding out ", 2},
+    {"read-header", "block ", "sequence identifier coding total number ", 0},
+    {"count-pages", "reading text ", "refusal position pages ", 0},
+    {"build-page", "sequence identifier reading text number ", "refusal position pages block ", 0},
+    {"write-pages", "sequence identifier reading text room ", "refusal position written pages out ", 2},
+    {"join-pages", "octets room ", "refusal position written reading sequence identifier pages out ", 4},
 };
 
 static int is(const char *key, size_t length, const char *word) {
   return strlen(word) == length && memcmp(key, word, length) == 0;
+}
+
+/* The largest number that a key may have. */
+static uint32_t most_of(const char *key, size_t length) {
+  if (is(key, length, "room")) return MOST_ROOM;
+  if (is(key, length, "sequence") || is(key, length, "identifier")) return UINT16_MAX;
+  return UINT32_MAX;
 }
 
 static int parse_value(const char *key, size_t length, const char *text, size_t out_digits, values *v) {
@@ -296,15 +337,21 @@ static int parse_value(const char *key, size_t length, const char *text, size_t 
     return 1;
   }
   if (is(key, length, "reading")) return parse_reading(text, &v->reading);
+  if (is(key, length, "block")) return parse_block(text, &v->block);
   if (is(key, length, "septets") || is(key, length, "octets")) return parse_elements(text, 2, &v->given);
   if (is(key, length, "text")) return parse_elements(text, 4, &v->given);
   if (is(key, length, "out")) return parse_elements(text, out_digits, &v->out);
-  if (!parse_number(text, is(key, length, "room") ? MOST_ROOM : UINT32_MAX, &number)) return 0;
+  if (!parse_number(text, most_of(key, length), &number)) return 0;
   if (is(key, length, "room")) v->room = number;
   if (is(key, length, "count")) v->count = number;
   if (is(key, length, "refusal")) v->refusal = number;
   if (is(key, length, "position")) v->position = number;
   if (is(key, length, "written")) v->written = number;
+  if (is(key, length, "sequence")) v->sequence = number;
+  if (is(key, length, "identifier")) v->identifier = number;
+  if (is(key, length, "pages")) v->pages = number;
+  if (is(key, length, "total")) v->total = number;
+  if (is(key, length, "number")) v->number = number;
   return 1;
 }
 
@@ -319,6 +366,11 @@ static int parse_values(char **parts, int from, int to, const char *keys, size_t
   return from == to;
 }
 
+static void print_block(const wikuay_block *block) {
+  size_t at;
+  for (at = 0; at < WIKUAY_BLOCK_OCTETS; at++) printf("%02X", (unsigned)block->octets[at]);
+}
+
 static void print_values(const char *keys, size_t out_digits, const values *v) {
   const char *between = "";
   while (*keys) {
@@ -328,6 +380,12 @@ static void print_values(const char *keys, size_t out_digits, const values *v) {
     if (is(keys, length, "position")) printf("%lu", (unsigned long)v->position);
     if (is(keys, length, "written")) printf("%lu", (unsigned long)v->written);
     if (is(keys, length, "count")) printf("%lu", (unsigned long)v->count);
+    if (is(keys, length, "sequence")) printf("%lu", (unsigned long)v->sequence);
+    if (is(keys, length, "identifier")) printf("%lu", (unsigned long)v->identifier);
+    if (is(keys, length, "pages")) printf("%lu", (unsigned long)v->pages);
+    if (is(keys, length, "total")) printf("%lu", (unsigned long)v->total);
+    if (is(keys, length, "number")) printf("%lu", (unsigned long)v->number);
+    if (is(keys, length, "block")) print_block(&v->block);
     if (is(keys, length, "coding")) printf("%02X", v->coding);
     if (is(keys, length, "reading")) print_reading(&v->reading);
     if (is(keys, length, "holds")) printf("%s", word_of(held, v->holds));
@@ -340,7 +398,9 @@ static void print_values(const char *keys, size_t out_digits, const values *v) {
 /* The values of keys that a call's answer lacks are the same on both sides, since both begin as all zero. */
 static int same_values(const values *a, const values *b, size_t out_digits) {
   return a->refusal == b->refusal && a->position == b->position && a->written == b->written && a->count == b->count &&
-         a->coding == b->coding && a->holds == b->holds && same_reading(&a->reading, &b->reading) &&
+         a->coding == b->coding && a->holds == b->holds && a->sequence == b->sequence &&
+         a->identifier == b->identifier && a->pages == b->pages && a->total == b->total && a->number == b->number &&
+         memcmp(&a->block, &b->block, sizeof a->block) == 0 && same_reading(&a->reading, &b->reading) &&
          (out_digits == 0 || same_elements(&a->out, &b->out, out_digits));
 }
 
@@ -371,15 +431,60 @@ static void take_read(const wikuay_read_answer *a, int reads, int holds) {
     wrong_silence = 1;
 }
 
+static void take_header(const wikuay_block_header *h) {
+  came.sequence = h->sequence;
+  came.identifier = h->identifier;
+  came.coding = h->coding;
+  came.total = h->total;
+  came.number = h->number;
+}
+
+static void take_pages(const wikuay_pages_answer *a, int writes) {
+  came.refusal = a->refusal;
+  came.position = (uint32_t)a->position;
+  came.written = (uint32_t)a->written;
+  came.pages = a->pages;
+  if ((!writes && a->written) || a->position > UINT32_MAX || a->written > UINT32_MAX) wrong_silence = 1;
+}
+
+static void take_page(const wikuay_page_answer *a) {
+  came.refusal = a->refusal;
+  came.position = (uint32_t)a->position;
+  came.pages = a->pages;
+  came.block = a->block;
+  if (a->position > UINT32_MAX) wrong_silence = 1;
+}
+
+static void take_joined(const wikuay_join_answer *a) {
+  came.refusal = a->refusal;
+  came.position = (uint32_t)a->position;
+  came.written = (uint32_t)a->written;
+  came.reading = a->reading;
+  came.sequence = a->sequence;
+  came.identifier = a->identifier;
+  came.pages = a->pages;
+  if (a->position > UINT32_MAX || a->written > UINT32_MAX) wrong_silence = 1;
+}
+
+/* Whether the elements that a call is given are units. */
+static int takes_units(int c) {
+  return c == TO_SEPTETS || c == WRITE_MESSAGE || c == COUNT_PAGES || c == BUILD_PAGE || c == WRITE_PAGES;
+}
+
 /* Runs the call with its buffers at a place. Answers the first touched element behind the written ones, or -1. */
 static long run_call(int c, int place) {
-  size_t wide = calls[c].digits / 2, in_wide = c == TO_SEPTETS || c == WRITE_MESSAGE ? 2 : 1;
+  size_t wide = calls[c].digits / 2, in_wide = takes_units(c) ? 2 : 1;
   size_t given_size = input.given.length * in_wide, out_size = input.room * wide, at, kept;
   unsigned char *given = lend(given_fence, given_size, place), *out = lend(out_fence, out_size, place);
   const uint16_t *given_units = (const uint16_t *)(void *)given;
   uint16_t *out_units = (uint16_t *)(void *)out;
   wikuay_answer a;
   wikuay_read_answer r;
+  wikuay_block block;
+  wikuay_block_header header;
+  wikuay_pages_answer pages;
+  wikuay_page_answer page;
+  wikuay_join_answer joined;
   long touched;
   memcpy(given, in_wide == 2 ? (const void *)input.given.units : (const void *)input.given.octets, given_size);
   memset(out, 0xA5, out_size);
@@ -419,9 +524,33 @@ static long run_call(int c, int place) {
                               input.room);
       take_read(&r, 1, 0);
       break;
-    default:
+    case WRITE_MESSAGE:
       a = wikuay_write_message(input.service, input.reading, given_units, input.given.length, out, input.room);
       take(&a, 1, 1);
+      break;
+    case READ_HEADER:
+      block = input.block;
+      header = wikuay_read_header(block);
+      if (memcmp(&block, &input.block, sizeof block) != 0) fail("a call stored into a block by value");
+      take_header(&header);
+      break;
+    case COUNT_PAGES:
+      pages = wikuay_count_pages(input.reading, given_units, input.given.length);
+      take_pages(&pages, 0);
+      break;
+    case BUILD_PAGE:
+      page = wikuay_build_page((uint16_t)input.sequence, (uint16_t)input.identifier, input.reading, given_units,
+                               input.given.length, input.number);
+      take_page(&page);
+      break;
+    case WRITE_PAGES:
+      pages = wikuay_write_pages((uint16_t)input.sequence, (uint16_t)input.identifier, input.reading, given_units,
+                                 input.given.length, out, input.room);
+      take_pages(&pages, 1);
+      break;
+    default:
+      joined = wikuay_join_pages(given, input.given.length, out_units, input.room);
+      take_joined(&joined);
       break;
   }
   if (memcmp(given, in_wide == 2 ? (const void *)input.given.units : (const void *)input.given.octets, given_size) != 0)

@@ -1,5 +1,6 @@
 /*
- * wikuay.h: the text that mobile networks carry, by 3GPP TS 23.038. C99 and C++11, for x86-64 Linux.
+ * wikuay.h: the text that mobile networks carry, by 3GPP TS 23.038, and broadcasts of several pages, in the blocks of
+ * 3GPP TS 23.041. C99 and C++11, for x86-64 Linux.
  *
  * Link libwikuay.a or libwikuay.so. Nothing is allocated, kept or printed; every call returns and may run in any
  * thread.
@@ -15,9 +16,10 @@
  * A flag is a uint8_t of 0 or 1. The count is TP-UDL, and a coding octet is the data coding scheme (DCS).
  *
  * An answer with refusal 0 is a success: the result is the first `written` elements of `out`, and the rest of `out` is
- * as it came. Any other answer is a refusal: `out` is as it came, written, count, coding and holds are 0, and the
- * reading is WIKUAY_PLAIN. Each call names its refusals in the order in which they are judged, and its clauses of
- * TS 23.038. Every call is proved to answer so: docs/OUTCOMES.md of the source names the theorems.
+ * as it came. Any other answer is a refusal: `out` is as it came, written, count, coding, holds, pages, sequence and
+ * identifier are 0, the octets of a block are 0, and the reading is WIKUAY_PLAIN. Each call names its refusals in the
+ * order in which they are judged, and its clauses of TS 23.038. Every call is proved to answer so: docs/OUTCOMES.md of
+ * the source names the theorems.
  */
 #ifndef WIKUAY_H
 #define WIKUAY_H
@@ -46,14 +48,14 @@ extern "C" {
 #define WIKUAY_REFUSED_COMPRESSED 1   /* compressed text */
 #define WIKUAY_REFUSED_NO_TEXT 2      /* the coding holds no text: 8-bit, WAP, an old page's alphabet not 0 */
 #define WIKUAY_REFUSED_PREFIXED 3     /* the coding has the prefix mark */
-#define WIKUAY_REFUSED_WRONG_LENGTH 4 /* octets do not fit the service or the count; UCS2 octets are odd */
-#define WIKUAY_REFUSED_TOO_LONG 5     /* text over the service's size */
+#define WIKUAY_REFUSED_WRONG_LENGTH 4 /* octets do not fit the service or the count, or are not whole blocks or units */
+#define WIKUAY_REFUSED_TOO_LONG 5     /* text over the service's size, or over 15 pages */
 #define WIKUAY_REFUSED_UNLISTED 6     /* a unit is not in the alphabet; position: the first such unit */
 #define WIKUAY_REFUSED_NO_ROOM 7      /* the lent buffer is shorter than the result */
 #define WIKUAY_REFUSED_UNWRITABLE 8   /* the reading cannot be written under the service; a number names nothing */
 #define WIKUAY_REFUSED_NO_SEPTET 9    /* a given septet is 128 or more; position: the first such septet */
+#define WIKUAY_REFUSED_WRONG_PAGES 10 /* pages or parts that are not those of one message; a page that it lacks */
 /* Not given yet by any call. */
-#define WIKUAY_REFUSED_WRONG_PAGES 10   /* pages or parts that are not those of one message */
 #define WIKUAY_REFUSED_WRONG_LETTERS 11 /* language letters */
 #define WIKUAY_REFUSED_WRONG_HEADER 12  /* user data header */
 #define WIKUAY_REFUSED_NO_TABLE 13      /* no table for the language */
@@ -117,6 +119,12 @@ static inline const char *wikuay_refusal_text(uint32_t refusal) {
 #define WIKUAY_MOST_OCTETS 160    /* room for what wikuay_pack and wikuay_write_message store */
 #define WIKUAY_MOST_SEPTETS 182   /* room for what wikuay_unpack stores */
 #define WIKUAY_MOST_UNITS 182     /* room for what wikuay_read_message stores */
+
+/* Broadcasts of several pages. A page holds as much as one by itself: 93 septets or 41 units. */
+#define WIKUAY_BLOCK_OCTETS 88   /* exactly: six of the header and 82 of text */
+#define WIKUAY_MOST_PAGES 15
+#define WIKUAY_PAGES_OCTETS 1320 /* room for what wikuay_write_pages stores */
+#define WIKUAY_PAGES_UNITS 1395  /* room for what wikuay_join_pages stores */
 
 /* Alphabets of a reading. */
 #define WIKUAY_7BIT 0
@@ -206,6 +214,49 @@ typedef struct {
   wikuay_reading reading; /* of wikuay_read_coding and wikuay_read_message, else WIKUAY_PLAIN */
 } wikuay_read_answer;
 
+/* One page of a broadcast, by value. Octets are counted from 1, and of a pair the high octet is first:
+   1 and 2 are the sequence number, 3 and 4 the message identifier, 5 is the data coding octet, 6 holds the total of
+   pages in its bits 3..0 and the number of this page, from 1, in its bits 7..4, and 7 to 88 are the text. */
+typedef struct {
+  uint8_t octets[WIKUAY_BLOCK_OCTETS];
+} wikuay_block;
+
+/* What stands in a block in front of the text. */
+typedef struct {
+  uint16_t sequence;   /* the sequence number */
+  uint16_t identifier; /* the message identifier */
+  uint8_t coding;      /* the data coding octet */
+  uint8_t total;       /* how many pages the message has, 0 to 15 */
+  uint8_t number;      /* which of them this is, 0 to 15 */
+} wikuay_block_header;
+
+/* What a call answers that counts the pages of a text, or writes all of them. */
+typedef struct {
+  uint32_t refusal; /* 0, or a WIKUAY_REFUSED_.. number */
+  uint32_t pages;   /* how many pages the message has, 1 to WIKUAY_MOST_PAGES */
+  size_t position;  /* the unit of refusal 6, else 0 */
+  size_t written;   /* octets stored at the front of out by wikuay_write_pages, 88 a page, else 0 */
+} wikuay_pages_answer;
+
+/* What a call answers that builds a page. */
+typedef struct {
+  uint32_t refusal;   /* 0, or a WIKUAY_REFUSED_.. number */
+  uint32_t pages;     /* how many pages the message has, 1 to WIKUAY_MOST_PAGES */
+  size_t position;    /* the unit of refusal 6, else 0 */
+  wikuay_block block; /* the page; all zero in a refusal */
+} wikuay_page_answer;
+
+/* What a call answers that joins pages. */
+typedef struct {
+  uint32_t refusal;       /* 0, or a WIKUAY_REFUSED_.. number */
+  uint32_t pages;         /* how many pages the message has, 1 to WIKUAY_MOST_PAGES */
+  size_t position;        /* 0, since no refusal of this call has a position */
+  size_t written;         /* units stored at the front of out */
+  uint16_t sequence;      /* the sequence number of every block */
+  uint16_t identifier;    /* the message identifier of every block */
+  wikuay_reading reading; /* what the coding octet of every block says */
+} wikuay_join_answer;
+
 /* The version of the library that is linked, as WIKUAY_VERSION_NUMBER has that of the header. Refuses nothing. */
 uint32_t wikuay_version(void);
 
@@ -268,6 +319,45 @@ wikuay_read_answer wikuay_read_message(uint32_t service, uint8_t coding, size_t 
  */
 wikuay_answer wikuay_write_message(uint32_t service, wikuay_reading reading, const uint16_t *text, size_t text_len,
                                    uint8_t *out, size_t out_len);
+
+/*
+ * Reads the header of a block. 3GPP TS 23.041, the block of 88 octets.
+ * Refuses nothing: a number or a total of 0 is told as it stands.
+ */
+wikuay_block_header wikuay_read_header(wikuay_block block);
+
+/*
+ * How many pages a text takes under a reading: as few as hold it, and one for the empty text. Clauses 5 and 6.
+ * Refuses: 8 a field that names nothing, a reading that cannot be written on a broadcast page; 1, 2, 3, 6, 5.
+ */
+wikuay_pages_answer wikuay_count_pages(wikuay_reading reading, const uint16_t *text, size_t text_len);
+
+/*
+ * Builds page number, from 1, of a text under a reading: every page but the last is full, and an escape may end one
+ * with its code on the next. Clauses 5 and 6, and the block of 3GPP TS 23.041.
+ * Refuses: 8 a field that names nothing, a reading that cannot be written on a broadcast page; 1, 2, 3, 6, 5, 10 a page
+ * that the message lacks.
+ */
+wikuay_page_answer wikuay_build_page(uint16_t sequence, uint16_t identifier, wikuay_reading reading,
+                                     const uint16_t *text, size_t text_len, size_t number);
+
+/*
+ * Writes all pages of a text under a reading, the blocks end to end in their order. Clauses 5 and 6, and the block of
+ * 3GPP TS 23.041.
+ * Refuses: 8 a field that names nothing, a reading that cannot be written on a broadcast page; 1, 2, 3, 6, 5, 7.
+ * Stores octets, 88 a page.
+ */
+wikuay_pages_answer wikuay_write_pages(uint16_t sequence, uint16_t identifier, wikuay_reading reading,
+                                       const uint16_t *text, size_t text_len, uint8_t *out, size_t out_len);
+
+/*
+ * Joins the pages of a message, lent as blocks end to end in any order: its text, what its coding octet says, and its
+ * header. CRs that close the text are dropped once, at the end of the last page. Clauses 5 and 6, and the block of 3GPP
+ * TS 23.041.
+ * Refuses: 4 octets that are not whole blocks, 10 no block; by the first block 1, 2, 3; 10 pages missing, repeated,
+ * numbered 0 or above the total, or of differing headers or totals; 7. Stores units.
+ */
+wikuay_join_answer wikuay_join_pages(const uint8_t *blocks, size_t blocks_len, uint16_t *out, size_t out_len);
 
 #ifdef __cplusplus
 }

@@ -1,4 +1,5 @@
 pub mod Counts
 pub mod Settled
 pub mod Refusing
+pub mod PageRefusing
 pub mod Outcomes

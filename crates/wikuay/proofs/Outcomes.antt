@@ -23,6 +23,16 @@ use Rattle.wikuay.proofs.wikuay_read_message.Kinds as read-message-kind
 use Rattle.wikuay.proofs.wikuay_read_message.Reads as read-message
 use Rattle.wikuay.proofs.wikuay_write_message.Kinds as write-message-kinds
 use Rattle.wikuay.proofs.wikuay_write_message.Reads as write-message
+use Rattle.wikuay.proofs.broadcasts.wikuay_read_header.Kinds as read-header-kinds
+use Rattle.wikuay.proofs.broadcasts.wikuay_read_header.Reads as read-header
+use Rattle.wikuay.proofs.broadcasts.wikuay_count_pages.Kinds as count-pages-kinds
+use Rattle.wikuay.proofs.broadcasts.wikuay_count_pages.Reads as count-pages
+use Rattle.wikuay.proofs.broadcasts.wikuay_build_page.Kinds as build-page-kinds
+use Rattle.wikuay.proofs.broadcasts.wikuay_build_page.Reads as build-page
+use Rattle.wikuay.proofs.broadcasts.wikuay_write_pages.Kinds as write-pages-kinds
+use Rattle.wikuay.proofs.broadcasts.wikuay_write_pages.Reads as write-pages
+use Rattle.wikuay.proofs.broadcasts.wikuay_join_pages.Kinds as join-pages-kinds
+use Rattle.wikuay.proofs.broadcasts.wikuay_join_pages.Reads as join-pages
 
 pub wikuay-version-unique : OneAnswer version-kinds.ps version-kinds.r version.Post
 wikuay-version-unique κs a x y u v p q = p ∙ sym q
@@ -71,3 +81,24 @@ wikuay-write-message-unique κs a x y u v p q = p .0 ∙ sym (q .0)
 
 pub wikuay-write-message-buffer-unique : OneBuffer write-message-kinds.ps write-message-kinds.r (λ κs u. now (u .1 .1 .1 .0)) write-message.Post
 wikuay-write-message-buffer-unique κs a x y u v p q = p .1 ∙ sym (q .1)
+
+pub wikuay-read-header-unique : OneAnswer read-header-kinds.ps read-header-kinds.r read-header.Post
+wikuay-read-header-unique κs a x y u v p q = p ∙ sym q
+
+pub wikuay-count-pages-unique : OneAnswer count-pages-kinds.ps count-pages-kinds.r count-pages.Post
+wikuay-count-pages-unique κs a x y u v p q = p ∙ sym q
+
+pub wikuay-build-page-unique : OneAnswer build-page-kinds.ps build-page-kinds.r build-page.Post
+wikuay-build-page-unique κs a x y u v p q = p ∙ sym q
+
+pub wikuay-write-pages-unique : OneAnswer write-pages-kinds.ps write-pages-kinds.r write-pages.Post
+wikuay-write-pages-unique κs a x y u v p q = p .0 ∙ sym (q .0)
+
+pub wikuay-write-pages-buffer-unique : OneBuffer write-pages-kinds.ps write-pages-kinds.r (λ κs u. now (u .1 .1 .1 .1 .0)) write-pages.Post
+wikuay-write-pages-buffer-unique κs a x y u v p q = p .1 ∙ sym (q .1)
+
+pub wikuay-join-pages-unique : OneAnswer join-pages-kinds.ps join-pages-kinds.r join-pages.Post
+wikuay-join-pages-unique κs a x y u v p q = p .0 ∙ sym (q .0)
+
+pub wikuay-join-pages-buffer-unique : OneBuffer join-pages-kinds.ps join-pages-kinds.r (λ κs u. now (u .1 .0)) join-pages.Post
+wikuay-join-pages-buffer-unique κs a x y u v p q = p .1 ∙ sym (q .1)

@@ -6,7 +6,7 @@
 use mathlib.Core.Path.{_≡_, refl}
 use mathlib.Core.Bool.{Bool, true, false, cond, _&&_}
 use mathlib.Core.List.{List, [], _∷_}
-use mathlib.Core.Logic.{_⊎_, inl, inr}
+use mathlib.Core.Logic.{inl, inr}
 use Prim.Native.Nat.{ℕ}
 use lib.ListN.{length}
 use Rattle.words.specs.declared.Service.{Service}
@@ -16,7 +16,6 @@ use Rattle.words.specs.declared.Refusal.the-variants.{Unwritable}
 use Rattle.words.specs.Refusals.{numberOf}
 use Rattle.words.specs.Judging.{Rule, when, Verdict, refused, accepted, verdict, settle}
 use Rattle.lists.proofs.Tests.{and-left, and-right}
-use Rattle.coding.specs.declared.Reading.{Reading}
 use Rattle.coding.specs.OctetRead.{octetRules, octetReads}
 use Rattle.coding.specs.OctetWritten.{octetWrites, writeRules as codingRules}
 use Rattle.coding.specs.declared.Held.the-variants as held
@@ -42,21 +41,21 @@ use Rattle.wikuay.specs.Refusing.{among, Judged}
 -- ---- said once, of any rules
 
 -- the refusals of the rules have these numbers
-abbrev rulesAmong : List ℕ → List Rule → Bool
+abbrev pub rulesAmong : List ℕ → List Rule → Bool
 rulesAmong numbers [] = true
 rulesAmong numbers (when t q ∷ rules) = among numbers (numberOf q) && rulesAmong numbers rules
 
-abbrev VerdictAmong : List ℕ → Verdict → Type 0
+abbrev pub VerdictAmong : List ℕ → Verdict → Type 0
 VerdictAmong numbers (refused q) = among numbers (numberOf q) ≡ true
 VerdictAmong numbers accepted = true ≡ true
 
-verdict-among : (numbers : List ℕ) (rules : List Rule) → rulesAmong numbers rules ≡ true → VerdictAmong numbers (verdict rules)
+pub verdict-among : (numbers : List ℕ) (rules : List Rule) → rulesAmong numbers rules ≡ true → VerdictAmong numbers (verdict rules)
 unfolding verdict
 verdict-among numbers [] h = refl
 verdict-among numbers (when true q ∷ rules) h = and-left (among numbers (numberOf q)) (rulesAmong numbers rules) h
 verdict-among numbers (when false q ∷ rules) h = verdict-among numbers rules (and-right (among numbers (numberOf q)) (rulesAmong numbers rules) h)
 
-judged : {A B : Type 0} (number : A → ℕ) (tell : Refusal → A) (numbers : List ℕ) (rules : List Rule) → rulesAmong numbers rules ≡ true
+pub judged : {A B : Type 0} (number : A → ℕ) (tell : Refusal → A) (numbers : List ℕ) (rules : List Rule) → rulesAmong numbers rules ≡ true
     → (answer : B → A) (refuse : Refusal → B) (given : B) → ((q : Refusal) → answer (refuse q) ≡ tell q) → number (answer given) ≡ 0
     → (out x : List ℕ) → Judged number tell numbers (answer (settle (verdict rules) refuse given)) out (settle (verdict rules) (λ q. out) x)
 judged number tell numbers rules h answer refuse given told zero out x = go (verdict rules) (verdict-among numbers rules h)
@@ -66,7 +65,7 @@ judged number tell numbers rules h answer refuse given told zero out x = go (ver
     go accepted k = inl zero
 
 -- the same of a call that is lent no buffer
-judged-alone : {A B : Type 0} (number : A → ℕ) (tell : Refusal → A) (numbers : List ℕ) (rules : List Rule) → rulesAmong numbers rules ≡ true
+pub judged-alone : {A B : Type 0} (number : A → ℕ) (tell : Refusal → A) (numbers : List ℕ) (rules : List Rule) → rulesAmong numbers rules ≡ true
     → (answer : B → A) (refuse : Refusal → B) (given : B) → ((q : Refusal) → answer (refuse q) ≡ tell q) → number (answer given) ≡ 0
     → Judged number tell numbers (answer (settle (verdict rules) refuse given)) [] []
 judged-alone number tell numbers rules h answer refuse given told zero = go (verdict rules) (verdict-among numbers rules h)

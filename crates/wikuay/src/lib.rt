@@ -19,6 +19,8 @@ use words::NamedService;
 use words::Refusal;
 use words::Service;
 
+pub mod broadcasts;
+
 // The version of the library as one number, as the header has it.
 #[no_mangle]
 pub extern "C" fn wikuay_version() -> u32

@@ -1,0 +1,2 @@
+pub mod MostPages
+pub mod Outcomes
