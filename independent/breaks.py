@@ -9,7 +9,7 @@ implementation's own. The exit status is 0 if each is noticed. Nothing on disk i
 import io
 import sys
 
-FILES = ("scope", "standard", "published", "limits", "damaged")
+FILES = ("scope", "standard", "published", "limits", "damaged", "pages")
 
 # What is wrong then, the text as it stands, and the text in its place. The text as it stands occurs once.
 BREAKS = (
@@ -65,6 +65,64 @@ BREAKS = (
     ("Czech is reserved", 'return Reading(language="czech")', "return RESERVED"),
     ("code 09 is a small c with cedilla", "0x00F2, 0x00C7,", "0x00F2, 0x00E7,"),
     ("code 24 is a dollar sign", "0x24: 0x00A4, ", ""),
+    # Broadcasts of several pages.
+    ("the halves of the page parameter are written the other way", "[total + 16 * number]", "[number + 16 * total]"),
+    ("the halves of the page parameter are read the other way", '"total": block[5] & 15, "number": block[5] >> 4}',
+     '"total": block[5] >> 4, "number": block[5] & 15}'),
+    ("a pair is written low octet first", "return [number >> 8, number & 255]", "return [number & 255, number >> 8]"),
+    ("a pair is read low octet first", '"identifier": 256 * block[2] + block[3]', '"identifier": block[2] + 256 * block[3]'),
+    ("the empty text has no page", "        return [[]]", "        return []"),
+    ("a full last page is followed by an empty one", "for at in range(0, len(elements), size)]",
+     "for at in range(0, len(elements) + 1, size)]"),
+    ("an escape stays on its code's page", "    return [packed_for(BROADCAST, page) for page in cut(septets, 93)]",
+     "    pages = [[]]\n    for unit in text:\n        if len(pages[-1] + CODES[unit]) > 93:\n            pages.append([])\n"
+     "        pages[-1] += CODES[unit]\n    return [packed_for(BROADCAST, page) for page in pages]"),
+    ("closing CRs take no page", "    septets = septets_of(text)\n    check_size",
+     "    septets = without_closing(septets_of(text), CR)\n    check_size"),
+    ("16 pages", "MOST_PAGES = 15", "MOST_PAGES = 16"),
+    ("units and not septets are held against 15 pages", "check_size(len(septets), MOST_PAGES * 93)",
+     "check_size(len(text), MOST_PAGES * 93)"),
+    ("over 15 pages comes before 6", "    septets = septets_of(text)\n    check_size",
+     "    check_size(len(text), MOST_PAGES * 93)\n    septets = septets_of(text)\n    check_size"),
+    ("page 0 is built", "if number < 1 or number > len(pages):", "if number > len(pages):"),
+    ("a page above the total is built", "if number < 1 or number > len(pages):",
+     "if number < 1 or number > len(pages) and number > 15:"),
+    ("a number to build is cut to eight bits", "    if number < 1 or number > len(pages):",
+     "    number &= 255\n    if number < 1 or number > len(pages):"),
+    ("a page that is lacking comes before 6 and 5", "    pages = pages_of(text_of(reading), text)\n    if number < 1",
+     "    text_of(reading)\n    if number < 1 or number > 15:\n        raise Refused(10)\n"
+     "    pages = pages_of(text_of(reading), text)\n    if number < 1"),
+    ("octets behind the last whole block are ignored", "    if len(octets) % BLOCK != 0:\n        raise Refused(4)\n",
+     "    octets = octets[:len(octets) // BLOCK * BLOCK]\n"),
+    ("no block is a wrong length", "    if not octets:\n        raise Refused(10)", "    if not octets:\n        raise Refused(4)"),
+    ("10 comes before 1 to 3", "    alphabet = text_of(reading)\n    check_pages(blocks)\n",
+     "    check_pages(blocks)\n    alphabet = text_of(reading)\n"),
+    ("every block decides 1 to 3", "    check_pages(blocks)\n",
+     "    for block in blocks:\n        text_of(reading_of(BROADCAST, block[4]))\n    check_pages(blocks)\n"),
+    ("a reserved coding is not joined", "    check_pages(blocks)\n",
+     "    if reading.reserved:\n        raise Refused(8)\n    check_pages(blocks)\n"),
+    ("headers are not compared", "if block[:5] != blocks[0][:5]:", "if False:"),
+    ("headers are compared without the coding octet", "if block[:5] != blocks[0][:5]:", "if block[:4] != blocks[0][:4]:"),
+    ("codings that read the same are let through", "if block[:5] != blocks[0][:5]:",
+     "if block[:4] != blocks[0][:4] or reading_of(BROADCAST, block[4]) != reading_of(BROADCAST, blocks[0][4]):"),
+    ("totals are not compared", 'if header_of(block)["total"] != total:', "if False:"),
+    ("page 0 is joined", "if number < 1 or number > total:", "if number > total:"),
+    ("a page above the total is joined", "if number < 1 or number > total:", "if number < 1:"),
+    ("a repeated page is let through", "if number in seen:", "if False:"),
+    ("a missing page is let through", "if len(seen) < total:", "if False:"),
+    ("pages are joined in the order in which they came",
+     'for block in sorted(blocks, key=lambda block: header_of(block)["number"]):', "for block in blocks:"),
+    ("closing CRs are dropped page by page", "elements += all_units(page) if alphabet == UCS2 else unpacked(page, 93)",
+     "elements += without_closing(all_units(page) if alphabet == UCS2 else unpacked(page, 93), CR)"),
+    ("closing CRs are dropped from the last page alone", "    elements = without_closing(elements, CR)\n",
+     "    last = len(elements) - (41 if alphabet == UCS2 else 93)\n"
+     "    elements = elements[:last] + without_closing(elements[last:], CR)\n"),
+    ("closing CRs are dropped behind the alphabet", "    elements = without_closing(elements, CR)\n"
+     "    return elements if alphabet == UCS2 else units_of(elements)",
+     "    return without_closing(elements if alphabet == UCS2 else units_of(elements), CR)"),
+    ("an escape at a page's end reads as a space", "    elements = without_closing(elements, CR)\n",
+     "    for end in range(92, len(elements), 93):\n        if alphabet == SEVEN and elements[end] == ESCAPE:\n"
+     "            elements[end] = SPACE\n    elements = without_closing(elements, CR)\n"),
 )
 
 
@@ -92,7 +150,7 @@ def differing(cases, text):
         try:
             return good(call, inputs)
         except (ArithmeticError, LookupError, TypeError, ValueError):
-            return {**cases.REFUSED, "refusal": 99, "position": 0}, None
+            return {**cases.REFUSED, "total": 0, "number": 0, "refusal": 99, "position": 0}, None
 
     cases.run_call = guarded
     return cases.run(cases.input_lines(io.BytesIO(text)), lambda line: None)

@@ -13,8 +13,9 @@ import sys
 import wikuay
 from wikuay import Notice, Reading, Refused
 
-LONGEST_LINE = 8192
+LONGEST_LINE = 16384
 LARGEST_ROOM = 4096
+LARGEST_PAIR = 65535
 LARGEST_NUMBER = 4294967295
 
 
@@ -102,6 +103,10 @@ def parse_room(value):
     return parse_number(value, LARGEST_ROOM)
 
 
+def parse_pair(value):
+    return parse_number(value, LARGEST_PAIR)
+
+
 def parse_octet(value):
     if not re.fullmatch("[0-9A-F]{2}", value):
         raise NotACase
@@ -118,6 +123,12 @@ def parse_elements(digits):
     return parse
 
 
+def parse_block(value):
+    if not re.fullmatch("[0-9A-F]{%d}" % (2 * wikuay.BLOCK), value):
+        raise NotACase
+    return list(bytes.fromhex(value))
+
+
 def print_elements(digits):
     return lambda elements: "".join("%0*X" % (digits, element) for element in elements) or "-"
 
@@ -132,8 +143,10 @@ KINDS = {
     "holds": (parse_word(("7bit", "ucs2", "none")), str),
     "number": (parse_number, str),
     "room": (parse_room, str),
+    "pair": (parse_pair, str),
     "octet": (parse_octet, print_octet),
     "octets": (parse_elements(2), print_elements(2)),
+    "block": (parse_block, print_elements(2)),
     "text": (parse_elements(4), print_elements(4)),
     "reading": (parse_reading, print_reading),
 }
@@ -144,7 +157,7 @@ KINDS = {
 
 # A key's kind of value where it is not the key itself. The kind of `out` is given with each call.
 KIND_OF_KEY = {"coding": "octet", "septets": "octets", "refusal": "number", "position": "number", "written": "number",
-               "count": "number"}
+               "count": "number", "total": "number", "pages": "number", "sequence": "pair", "identifier": "pair"}
 
 # Name, function, keys of the inputs, keys of the answer, kind of `out`.
 CALLS = {name: (function, inputs.split(), answer.split(), out) for name, function, inputs, answer, out in (
@@ -159,10 +172,18 @@ CALLS = {name: (function, inputs.split(), answer.split(), out) for name, functio
      "refusal position written reading out", "text"),
     ("write-message", wikuay.write_message, "service reading text room",
      "refusal position written count coding out", "octets"),
+    ("read-header", wikuay.read_header, "block", "sequence identifier coding total number", None),
+    ("count-pages", wikuay.count_pages, "reading text", "refusal position pages", None),
+    ("build-page", wikuay.build_page, "sequence identifier reading text number", "refusal position pages block", None),
+    ("write-pages", wikuay.write_pages, "sequence identifier reading text room",
+     "refusal position written pages out", "octets"),
+    ("join-pages", wikuay.join_pages, "octets room",
+     "refusal position written reading sequence identifier pages out", "text"),
 )}
 
 # What a refusal holds beside its number and position.
-REFUSED = {"written": 0, "count": 0, "coding": 0, "reading": wikuay.PLAIN, "holds": "none", "out": []}
+REFUSED = {"written": 0, "count": 0, "coding": 0, "reading": wikuay.PLAIN, "holds": "none", "sequence": 0, "identifier": 0,
+           "pages": 0, "block": [0] * wikuay.BLOCK, "out": []}
 
 FILLING = {"octets": 0xA5, "text": 0xA5A5}
 

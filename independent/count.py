@@ -7,7 +7,7 @@ import io
 
 import cases
 
-FILES = ("scope", "standard", "published", "limits", "damaged", "random")
+FILES = ("scope", "standard", "published", "limits", "damaged", "pages", "random")
 
 
 def table():

@@ -2,12 +2,16 @@
 
 Lengths keep to both sides of the limits, and inputs are for the most part nearly right: a valid input with one thing
 changed reaches further into a call than noise does.
+
+The calls of the base and those of several pages have a stream each, so that a stream's cases do not change when the
+other grows.
 """
 
+import itertools
 import random
 
 import wikuay
-from cases import LARGEST_ROOM, print_case, run_call
+from cases import CALLS, LARGEST_ROOM, print_case, run_call
 from wikuay import Notice, Reading
 
 # The lengths around every limit, in septets, units and octets.
@@ -260,8 +264,12 @@ def random_room(rng, needed):
 
 def random_case(rng, label):
     call = rng.choices(tuple(WEIGHTS), tuple(WEIGHTS.values()))[0]
-    inputs = random_inputs(rng, call)
-    if call not in ("read-coding", "write-coding", "holds-text"):
+    return case_of(rng, label, call, random_inputs(rng, call))
+
+
+def case_of(rng, label, call, inputs):
+    """The case of these inputs. A call that is lent a buffer gets a room around what it needs."""
+    if "out" in CALLS[call][2]:
         inputs["room"] = LARGEST_ROOM
         answer, _ = run_call(call, inputs)
         inputs["room"] = random_room(rng, answer["written"])
@@ -269,7 +277,165 @@ def random_case(rng, label):
     return print_case(label, call, inputs, answer)
 
 
-def random_cases(number, seed):
+# ---------------------------------------------------------------------------------------------------------------------
+# Broadcasts of several pages
+
+PAGE_WEIGHTS = {"read-header": 1, "count-pages": 3, "build-page": 4, "write-pages": 4, "join-pages": 8}
+
+# The lengths around some numbers of pages. Long texts are rare, since their lines are long.
+PAGE_SEPTETS = (0, 1, 92, 93, 94, 185, 186, 187, 279, 280)
+PAGE_UNITS = (0, 1, 40, 41, 42, 81, 82, 83, 123, 124)
+MANY_SEPTETS = (1301, 1302, 1303, 1393, 1394, 1395, 1396, 1397)
+MANY_UNITS = (573, 574, 575, 614, 615, 616, 617)
+
+
+def random_page_length(rng, around, many):
+    kind = rng.random()
+    if kind < 0.12:
+        return rng.choice(many)
+    if kind < 0.6:
+        return rng.choice(around)
+    if kind < 0.65:
+        return rng.randrange(0, many[0])
+    return rng.randrange(0, 3 * around[3])
+
+
+def random_page_reading(rng):
+    """Most often a reading that holds text and has an octet; one that is refused 1, 2 or 3 now and then."""
+    kind = rng.random()
+    if kind < 0.45:
+        return wikuay.PLAIN
+    if kind < 0.75:
+        return Reading(alphabet=wikuay.UCS2)
+    if kind < 0.78:
+        return Reading(alphabet=rng.choice((wikuay.SEVEN, wikuay.UCS2)), compressed=True)
+    if kind < 0.81:
+        return Reading(alphabet=rng.choice((wikuay.EIGHT, wikuay.WAP)))
+    if kind < 0.84:
+        return Reading(alphabet=rng.choice((wikuay.SEVEN, wikuay.UCS2)), prefix=True)
+    return random_reading(rng, wikuay.BROADCAST)
+
+
+def random_page_text(rng, reading):
+    if reading.alphabet == wikuay.UCS2:
+        return random_ucs2_text(rng, random_page_length(rng, PAGE_UNITS, MANY_UNITS))
+    n = random_page_length(rng, PAGE_SEPTETS, MANY_SEPTETS)
+    if rng.random() < 0.05:
+        return [wikuay.CR] * n
+    return random_text(rng, n)
+
+
+def random_pair(rng):
+    return rng.choice((0, 1, 255, 256, 0x7FFF, 0x8000, 0xFFFF, rng.randrange(65536), rng.randrange(65536)))
+
+
+def random_page(rng, alphabet, last):
+    """The 82 octets of a page, which is full unless it is the last, and now and then even if it is not."""
+    size = 41 if alphabet == wikuay.UCS2 else 93
+    n = rng.choice((0, 1, size - 1, size, rng.randrange(size))) if last or rng.random() < 0.1 else size
+    if alphabet == wikuay.UCS2:
+        return wikuay.ucs2_octets(wikuay.BROADCAST, random_ucs2_text(rng, n))
+    octets = wikuay.packed(wikuay.broadcast_filled(random_septets(rng, n)))
+    return with_spare_bits(rng, 93, octets) if rng.random() < 0.3 else octets
+
+
+def random_block_coding(rng):
+    """Most often an octet that holds text, a reserved one among them."""
+    octet = rng.choice((0x0F, 0x0F, 0x48, 0x48, rng.randrange(256), rng.randrange(256)))
+    reading = wikuay.reading_of(wikuay.BROADCAST, octet)
+    if reading.compressed or reading.alphabet in (wikuay.EIGHT, wikuay.WAP):  # draw once more
+        return rng.randrange(256)
+    return octet
+
+
+def random_blocks(rng):
+    """The blocks of a message, in order."""
+    coding = random_block_coding(rng)
+    alphabet = wikuay.reading_of(wikuay.BROADCAST, coding).alphabet
+    total = rng.choice((1, 1, 2, 2, 2, 3, 3, 4, rng.randrange(1, 16)))
+    sequence, identifier = random_pair(rng), random_pair(rng)
+    return [wikuay.block_of(sequence, identifier, coding, total, number, random_page(rng, alphabet, number == total))
+            for number in range(1, total + 1)]
+
+
+def damaged_blocks(rng, blocks):
+    """The blocks with one thing made wrong, which may by chance still be right."""
+    blocks = [list(block) for block in blocks]
+    victim = rng.randrange(len(blocks))
+    kind = rng.randrange(7)
+    if kind == 0:
+        del blocks[victim]
+    elif kind == 1:
+        blocks.insert(rng.randrange(len(blocks) + 1), blocks[victim])
+    elif kind == 2:
+        blocks[victim][rng.randrange(5)] ^= 1 << rng.randrange(8)
+    elif kind == 3:
+        blocks[victim][5] ^= 1 << rng.randrange(8)
+    elif kind == 4:
+        blocks[victim][5] = rng.randrange(256)
+    elif kind == 5:  # a page too many for the total, or one too few
+        total = max(0, min(15, len(blocks) + rng.choice((-1, 1))))
+        for block in blocks:
+            block[5] = block[5] & 0xF0 | total
+    else:
+        blocks += [blocks[victim]] * (16 - len(blocks))
+    return blocks
+
+
+def random_joined_octets(rng):
+    blocks = random_blocks(rng)
+    if rng.random() < 0.7:
+        rng.shuffle(blocks)
+    if rng.random() < 0.2:
+        blocks = damaged_blocks(rng, blocks)
+    octets = [octet for block in blocks for octet in block]
+    if rng.random() < 0.05:
+        if rng.random() < 0.5:
+            return octets + [rng.randrange(256) for _ in range(rng.choice((1, 2, 82, 87, 88)))]
+        return octets[:max(0, len(octets) - rng.choice((1, 2, 82, 87, 88)))]
+    return octets
+
+
+def random_page_inputs(rng, call):
+    if call == "read-header":
+        return {"block": [rng.randrange(256) for _ in range(wikuay.BLOCK)]}
+    if call == "join-pages":
+        return {"octets": random_joined_octets(rng)}
+    reading = random_page_reading(rng)
+    inputs = {"reading": reading, "text": random_page_text(rng, reading)}
+    if call == "count-pages":
+        return inputs
+    inputs = {"sequence": random_pair(rng), "identifier": random_pair(rng), **inputs}
+    if call == "build-page":
+        answer, _ = run_call("count-pages", {"reading": reading, "text": inputs["text"]})
+        total = max(1, answer["pages"])
+        inputs["number"] = rng.choice((0, total + 1, 15, 16, 257, 4294967295) if rng.random() < 0.2 else
+                                      (1, total, rng.randrange(1, total + 1)))
+    return inputs
+
+
+def random_page_case(rng, label):
+    call = rng.choices(tuple(PAGE_WEIGHTS), tuple(PAGE_WEIGHTS.values()))[0]
+    return case_of(rng, label, call, random_page_inputs(rng, call))
+
+
+# ---------------------------------------------------------------------------------------------------------------------
+# The streams
+
+def base_cases(seed):
     rng = random.Random(seed)
-    for n in range(1, number + 1):
+    for n in itertools.count(1):
         yield random_case(rng, "random-%d-%d" % (seed, n))
+
+
+def page_cases(seed):
+    rng = random.Random("pages %d" % seed)
+    for n in itertools.count(1):
+        yield random_page_case(rng, "random-pages-%d-%d" % (seed, n))
+
+
+def random_cases(number, seed):
+    """Both streams, mixed: each fourth case is one of several pages."""
+    base, pages = base_cases(seed), page_cases(seed)
+    for n in range(1, number + 1):
+        yield next(base if n % 4 else pages)

@@ -8,31 +8,36 @@ scope.txt is written by hand and left alone.
 
 import contextlib
 import io
+import itertools
 import sys
 
 import damaged
 import limits
+import pages
 import published
 import standard
-from random_cases import random_cases
+from random_cases import base_cases, page_cases
 
-RANDOM_CASES, RANDOM_SEED = 3000, 23038
+RANDOM_CASES, RANDOM_PAGE_CASES, RANDOM_SEED = 3000, 500, 23038
 
 RANDOM_HEADER = """\
-# Random cases: python3 independent/cases.py --random %d --seed %d
+# Random cases, %d of the base and then %d of several pages: the first of cases.py --random 4000 --seed %d
 # Every answer comes from the second implementation. These lines show that two programs agree, and not which is right.
 
-""" % (RANDOM_CASES, RANDOM_SEED)
+""" % (RANDOM_CASES, RANDOM_PAGE_CASES, RANDOM_SEED)
 
 
 def random_file():
+    """The base's lines stand first, so that they keep their places."""
     print(RANDOM_HEADER, end="")
-    for line in random_cases(RANDOM_CASES, RANDOM_SEED):
+    for line in itertools.islice(base_cases(RANDOM_SEED), RANDOM_CASES):
+        print(line)
+    for line in itertools.islice(page_cases(RANDOM_SEED), RANDOM_PAGE_CASES):
         print(line)
 
 
 WRITERS = {"standard": standard.main, "published": published.main, "limits": limits.main, "damaged": damaged.main,
-           "random": random_file}
+           "pages": pages.main, "random": random_file}
 
 
 def written_by(writer):

@@ -12,6 +12,7 @@ import unittest
 
 import cases
 import count
+import random_cases
 import regenerate
 import wikuay
 
@@ -71,6 +72,36 @@ class Format(unittest.TestCase):
             for octet in range(256):
                 reading = wikuay.reading_of(service, octet)
                 self.assertEqual(cases.parse_reading(cases.print_reading(reading)), reading)
+
+
+    def test_blocks_and_pairs(self):
+        self.assertEqual(cases.parse_block("00" * 87 + "FF"), [0] * 87 + [0xFF])
+        for value in ("00" * 87, "00" * 89, "00" * 87 + "0", "00" * 87 + "ff", "-", ""):
+            self.assertRaises(cases.NotACase, cases.parse_block, value)
+        self.assertEqual(cases.parse_pair("65535"), 65535)
+        for value in ("65536", "00", "01", "-", "", "4294967296"):
+            self.assertRaises(cases.NotACase, cases.parse_pair, value)
+
+    def test_header_has_no_refusal(self):
+        line = "t read-header block=0001FF000F21%s : sequence=1 identifier=65280 coding=0F total=1 number=2" % ("00" * 82)
+        self.assertEqual(run(line.encode()), "1 cases, 0 differ\n")
+
+    def test_longest_line(self):
+        line = b"t text-to-septets text=%s room=0 : refusal=6 position=0 written=0 out=-" % (b"4E2D" * 4078)
+        line = b"t" * (16384 - len(line)) + line
+        self.assertEqual(run(line), "1 cases, 0 differ\n")
+        self.assertEqual(run(b"t" + line), "line 1: longer than 16384 characters\n1 cases, 1 differ\n")
+
+
+class Random(unittest.TestCase):
+    def test_each_fourth_case_is_one_of_several_pages(self):
+        labels = [line.split(" ", 1)[0] for line in random_cases.random_cases(8, 7)]
+        self.assertEqual(labels, ["random-7-1", "random-7-2", "random-7-3", "random-pages-7-1",
+                                  "random-7-4", "random-7-5", "random-7-6", "random-pages-7-2"])
+
+    def test_all_calls_come(self):
+        came = {line.split(" ")[1] for line in random_cases.random_cases(400, 1)}
+        self.assertEqual(came, set(cases.CALLS))
 
 
 class Vectors(unittest.TestCase):

@@ -1,8 +1,8 @@
-"""Unit tests of the second implementation against document 01.
+"""Unit tests of the second implementation against document 01 and W1 of document 02.
 
     python3 -m unittest discover independent
 
-Every expected value is worked out by hand from document 01 or stands in it. None is a printout of the program.
+Every expected value is worked out by hand from these documents or stands in them. None is a printout of the program.
 """
 
 import unittest
@@ -365,6 +365,187 @@ class WholeReader(Case):
         self.refuses(3, 0, read, USSD, 0x11, 9, [0], room=0)
         self.refuses(4, 0, read, USSD, 0x0F, 9, [0], room=0)
         self.refuses(7, 0, read, USSD, 0x0F, 0, [0], room=0)
+
+
+UCS2 = Reading(alphabet="ucs2")
+
+# Pages of 82 octets. The filling of a page is that of document 01's C9; "A" and 65 in its first septet change only the
+# first octet, whose highest bit is the lowest of the CR behind.
+EMPTY_PAGE = octets("8D46A3D168341A" * 11 + "8D46A3D100")
+A_PAGE = [0xC1] + EMPTY_PAGE[1:]
+CODE_PAGE = [0xE5] + EMPTY_PAGE[1:]
+FULL_PAGE = octets("C16030180C0683" * 11 + "C160301804")
+# 92 "A" and an escape: its low half closes the fourth octet of the last group, its high half is the last octet.
+ESCAPE_PAGE = octets("C16030180C0683" * 11 + "C16030B801")
+
+
+def block(parameter, page, front="123456780F"):
+    return octets(front) + [parameter] + page
+
+
+class Headers(Case):
+    def test_fields(self):
+        self.assertEqual(wikuay.read_header(block(0x23, FULL_PAGE)),
+                         {"sequence": 0x1234, "identifier": 0x5678, "coding": 0x0F, "total": 3, "number": 2})
+
+    def test_nothing_is_refused(self):
+        self.assertEqual(wikuay.read_header([0] * 88),
+                         {"sequence": 0, "identifier": 0, "coding": 0, "total": 0, "number": 0})
+        self.assertEqual(wikuay.read_header([0xFF] * 88),
+                         {"sequence": 65535, "identifier": 65535, "coding": 0xFF, "total": 15, "number": 15})
+
+
+class CountingPages(Case):
+    def counts(self, reading, text, pages):
+        self.assertEqual(wikuay.count_pages(reading, text), {"pages": pages})
+
+    def test_seven_bit(self):
+        for n, pages in ((0, 1), (1, 1), (93, 1), (94, 2), (186, 2), (187, 3), (1302, 14), (1303, 15), (1395, 15)):
+            self.counts(PLAIN, [A] * n, pages)
+        self.refuses(5, 0, wikuay.count_pages, PLAIN, [A] * 1396)
+
+    def test_septets_count_and_not_units(self):
+        self.counts(PLAIN, [EURO] * 46, 1)
+        self.counts(PLAIN, [EURO] * 47, 2)
+        self.counts(PLAIN, [EURO] * 697 + [A], 15)
+        self.refuses(5, 0, wikuay.count_pages, PLAIN, [EURO] * 698)
+
+    def test_closing_crs_count(self):
+        self.counts(PLAIN, [CR] * 93, 1)
+        self.counts(PLAIN, [CR] * 94, 2)
+        self.counts(UCS2, [CR] * 42, 2)
+
+    def test_ucs2(self):
+        for n, pages in ((0, 1), (41, 1), (42, 2), (574, 14), (575, 15), (615, 15)):
+            self.counts(UCS2, [HAN] * n, pages)
+        self.refuses(5, 0, wikuay.count_pages, UCS2, [HAN] * 616)
+
+    def test_refusals_in_order(self):
+        text = [A] * 1396 + [HAN]
+        self.refuses(8, 0, wikuay.count_pages, Reading(compressed=True, deletion=True), text)
+        self.refuses(1, 0, wikuay.count_pages, Reading(alphabet="8bit", compressed=True), text)
+        self.refuses(2, 0, wikuay.count_pages, Reading(alphabet="wap"), text)
+        self.refuses(3, 0, wikuay.count_pages, Reading(prefix=True), text)
+        self.refuses(6, 1396, wikuay.count_pages, PLAIN, text)
+
+
+class BuildingPages(Case):
+    def builds(self, reading, text, number, pages, block):
+        self.assertEqual(wikuay.build_page(0x1234, 0x5678, reading, text, number), {"pages": pages, "block": block})
+
+    def test_pages(self):
+        self.builds(PLAIN, [], 1, 1, block(0x11, EMPTY_PAGE))
+        self.builds(PLAIN, [A] * 93, 1, 1, block(0x11, FULL_PAGE))
+        self.builds(PLAIN, [A] * 94, 1, 2, block(0x12, FULL_PAGE))
+        self.builds(PLAIN, [A] * 94, 2, 2, block(0x22, A_PAGE))
+        self.builds(PLAIN, [A] * 1395, 15, 15, block(0xFF, FULL_PAGE))
+        self.builds(PLAIN, [CR] * 94, 2, 2, block(0x22, EMPTY_PAGE))
+
+    def test_an_escape_ends_a_page(self):
+        self.builds(PLAIN, [A] * 92 + [EURO], 1, 2, block(0x12, ESCAPE_PAGE))
+        self.builds(PLAIN, [A] * 92 + [EURO], 2, 2, block(0x22, CODE_PAGE))
+
+    def test_ucs2(self):
+        self.builds(UCS2, [HAN] * 42, 1, 2, block(0x12, octets("4E2D" * 41), "1234567848"))
+        self.builds(UCS2, [HAN] * 42, 2, 2, block(0x22, octets("4E2D" + "000D" * 40), "1234567848"))
+
+    def test_pages_that_the_message_lacks(self):
+        for number in (0, 3, 15, 16, 17, 258, 65537, 4294967295):
+            self.refuses(10, 0, wikuay.build_page, 1, 2, PLAIN, [A] * 94, number)
+
+    def test_refusals_in_order(self):
+        text = [A] * 1396 + [HAN]
+        self.refuses(8, 0, wikuay.build_page, 1, 2, Reading(reserved=True), text, 0)
+        self.refuses(1, 0, wikuay.build_page, 1, 2, Reading(compressed=True), text, 0)
+        self.refuses(2, 0, wikuay.build_page, 1, 2, Reading(alphabet="8bit"), text, 0)
+        self.refuses(3, 0, wikuay.build_page, 1, 2, Reading(alphabet="ucs2", prefix=True), text, 0)
+        self.refuses(6, 1396, wikuay.build_page, 1, 2, PLAIN, text, 0)
+        self.refuses(5, 0, wikuay.build_page, 1, 2, PLAIN, text[:-1], 0)
+
+
+class WritingPages(Case):
+    def test_pages(self):
+        write = wikuay.write_pages
+        self.accepts(write, 0x1234, 0x5678, PLAIN, [], room=89, out=block(0x11, EMPTY_PAGE), pages=1)
+        self.accepts(write, 0x1234, 0x5678, PLAIN, [A] * 187, room=264, pages=3,
+                     out=block(0x13, FULL_PAGE) + block(0x23, FULL_PAGE) + block(0x33, A_PAGE))
+        self.accepts(write, 0x1234, 0x5678, UCS2, [HAN] * 42, room=200, pages=2,
+                     out=block(0x12, octets("4E2D" * 41), "1234567848")
+                     + block(0x22, octets("4E2D" + "000D" * 40), "1234567848"))
+
+    def test_refusals_in_order(self):
+        write, text = wikuay.write_pages, [A] * 1396 + [HAN]
+        self.refuses(8, 0, write, 1, 2, Reading(deletion=True), text, room=0)
+        self.refuses(1, 0, write, 1, 2, Reading(compressed=True), text, room=0)
+        self.refuses(2, 0, write, 1, 2, Reading(alphabet="8bit"), text, room=0)
+        self.refuses(3, 0, write, 1, 2, Reading(prefix=True), text, room=0)
+        self.refuses(6, 1396, write, 1, 2, PLAIN, text, room=0)
+        self.refuses(5, 0, write, 1, 2, PLAIN, text[:-1], room=0)
+        self.refuses(7, 0, write, 1, 2, PLAIN, [A] * 94, room=175)
+
+
+class JoiningPages(Case):
+    def joins(self, blocks, text, pages, reading=PLAIN):
+        self.accepts(wikuay.join_pages, sum(blocks, []), room=len(text) + 1, out=text, reading=reading, sequence=0x1234,
+                     identifier=0x5678, pages=pages)
+
+    def lacks(self, *blocks, number=10):
+        self.refuses(number, 0, wikuay.join_pages, sum(blocks, []), room=1500)
+
+    def test_any_order(self):
+        first, second, third = block(0x13, FULL_PAGE), block(0x23, ESCAPE_PAGE), block(0x33, CODE_PAGE)
+        for blocks in ([first, second, third], [third, second, first], [second, third, first]):
+            self.joins(blocks, [A] * 185 + [EURO], 3)
+
+    def test_closing_crs_are_dropped_once(self):
+        self.joins([block(0x12, FULL_PAGE), block(0x22, EMPTY_PAGE)], [A] * 93, 2)
+        self.joins([block(0x12, EMPTY_PAGE), block(0x22, EMPTY_PAGE)], [], 2)
+        self.joins([block(0x12, A_PAGE), block(0x22, EMPTY_PAGE)], [A], 2)
+        self.joins([block(0x12, A_PAGE), block(0x22, A_PAGE)], [A] + [CR] * 92 + [A], 2)
+
+    def test_escapes(self):
+        self.joins([block(0x11, ESCAPE_PAGE)], [A] * 92 + units(" "), 1)
+        self.joins([block(0x12, ESCAPE_PAGE), block(0x22, EMPTY_PAGE)], [A] * 92 + units(" "), 2)
+        self.joins([block(0x12, ESCAPE_PAGE), block(0x22, A_PAGE)], [A] * 93, 2)
+
+    def test_spare_bits_are_ignored(self):
+        self.joins([block(0x12, FULL_PAGE[:-1] + [0xFC]), block(0x22, A_PAGE[:-1] + [0xF8])], [A] * 94, 2)
+
+    def test_ucs2(self):
+        front = "1234567849"  # reads as 48 does, and is no other message's
+        self.joins([block(0x22, octets("000D" + "4E2D" + "000D" * 39), front), block(0x12, octets("4E2D" * 41), front)],
+                   [HAN] * 41 + [CR, HAN], 2, UCS2)
+
+    def test_a_reserved_coding_is_read(self):
+        self.joins([block(0x11, A_PAGE, "1234567880")], [A], 1, RESERVED)
+
+    def test_pages_that_are_no_message(self):
+        first, second = block(0x12, FULL_PAGE), block(0x22, A_PAGE)
+        self.lacks()
+        self.lacks(first)
+        self.lacks(second)
+        self.lacks(first, first)
+        self.lacks(first, second, second)
+        self.lacks(block(0x01, A_PAGE))
+        self.lacks(block(0x02, A_PAGE), first)
+        self.lacks(block(0x21, A_PAGE))
+        self.lacks(block(0x10, A_PAGE))
+        self.lacks(block(0x00, A_PAGE))
+        self.lacks(first, block(0x23, A_PAGE))
+        self.lacks(block(0x13, A_PAGE), second)
+        self.lacks(*[block(16 * number + 15, A_PAGE) for number in range(16)])
+        for front in ("923456780F", "123556780F", "1234D6780F", "123456790F", "1234567840", "1234567860"):
+            self.lacks(first, block(0x22, A_PAGE, front))
+
+    def test_refusals_in_order(self):
+        join = wikuay.join_pages
+        self.refuses(4, 0, join, block(0x00, A_PAGE, "1234567860") + [0], room=0)
+        self.refuses(4, 0, join, [0] * 87, room=0)
+        self.lacks(block(0x00, A_PAGE, "1234567864"), number=1)
+        self.lacks(block(0x00, A_PAGE, "12345678E0"), number=2)
+        self.lacks(block(0x12, A_PAGE, "1234567811"), block(0x22, A_PAGE), number=3)
+        self.refuses(10, 0, join, block(0x12, A_PAGE), room=0)
+        self.refuses(7, 0, join, block(0x12, FULL_PAGE) + block(0x22, A_PAGE), room=93)
 
 
 if __name__ == "__main__":

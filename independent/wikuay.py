@@ -1,9 +1,10 @@
-"""A second implementation of the base of Wikuay, written from document 01 and the settled readings of it,
-without sight of the Rattle code.
+"""A second implementation of Wikuay, the base and W1 of document 02, written from documents 01 and 02 and the settled
+readings of them, without sight of the Rattle code.
 
-It follows document 01 section by section and does everything in the plainest way. The nine calls at the end are what
-the cases run. Each stores its result in a buffer that the caller lends, a list, and answers with a dictionary. A call
-that refuses raises Refused, and has then stored nothing.
+It follows document 01 section by section, then W1, and does everything in the plainest way. The fourteen calls at the
+end are what the cases run. Each answers with a dictionary; one with a longer result stores it in a buffer that the
+caller lends, a list. A block of 88 octets is a list that is handed over by value. A call that refuses raises Refused,
+and has then stored nothing.
 """
 
 from functools import lru_cache
@@ -312,11 +313,84 @@ def ucs2_octets(service, text):
     return octets
 
 
+def all_units(octets):
+    return [256 * octets[at] + octets[at + 1] for at in range(0, len(octets), 2)]
+
+
 def ucs2_units(service, octets):
-    text = [256 * octets[at] + octets[at + 1] for at in range(0, len(octets), 2)]
+    text = all_units(octets)
     if service == BROADCAST:
         return without_closing(text, CR)
     return text
+
+
+# ---------------------------------------------------------------------------------------------------------------------
+# Broadcasts of several pages (document 02, W1)
+
+BLOCK = 88
+MOST_PAGES = 15
+
+
+def pair_of(number):
+    """Two octets, the high one first."""
+    return [number >> 8, number & 255]
+
+
+def block_of(sequence, identifier, coding, total, number, page):
+    """Sequence number, message identifier, data coding, page parameter, and the 82 octets of the page."""
+    return pair_of(sequence) + pair_of(identifier) + [coding] + [total + 16 * number] + page
+
+
+def header_of(block):
+    """The five fields in front of the page, as they stand."""
+    return {"sequence": 256 * block[0] + block[1], "identifier": 256 * block[2] + block[3], "coding": block[4],
+            "total": block[5] & 15, "number": block[5] >> 4}
+
+
+def cut(elements, size):
+    """The elements of each page: as few pages as hold them, and one for no element. All but the last are full."""
+    if not elements:
+        return [[]]
+    return [elements[at:at + size] for at in range(0, len(elements), size)]
+
+
+def pages_of(alphabet, text):
+    """The 82 octets of each page. Refusals 6 and 5."""
+    if alphabet == UCS2:
+        check_size(len(text), MOST_PAGES * 41)
+        return [ucs2_octets(BROADCAST, page) for page in cut(text, 41)]
+    septets = septets_of(text)
+    check_size(len(septets), MOST_PAGES * 93)
+    return [packed_for(BROADCAST, page) for page in cut(septets, 93)]
+
+
+def check_pages(blocks):
+    """Refusal 10: the blocks are not each page of one message, once."""
+    total = header_of(blocks[0])["total"]
+    seen = []
+    for block in blocks:
+        if block[:5] != blocks[0][:5]:
+            raise Refused(10)
+        if header_of(block)["total"] != total:
+            raise Refused(10)
+        number = header_of(block)["number"]
+        if number < 1 or number > total:
+            raise Refused(10)
+        if number in seen:
+            raise Refused(10)
+        seen.append(number)
+    if len(seen) < total:
+        raise Refused(10)
+
+
+def joined_text(alphabet, blocks):
+    """The text of the pages in their order. Closing CRs are dropped once, and then the alphabet is read."""
+    elements = []
+    for block in sorted(blocks, key=lambda block: header_of(block)["number"]):
+        page = block[6:]
+        elements += all_units(page) if alphabet == UCS2 else unpacked(page, 93)
+    elements = without_closing(elements, CR)
+    return elements if alphabet == UCS2 else units_of(elements)
 
 
 # ---------------------------------------------------------------------------------------------------------------------
@@ -353,7 +427,7 @@ def store(result, out):
 
 
 # ---------------------------------------------------------------------------------------------------------------------
-# The calls. Each does its tests in the order of document 01.
+# The calls. Each does its tests in the order that its first line gives.
 
 def read_coding(service, coding):
     """Only 2, for an old page."""
@@ -425,3 +499,50 @@ def write_message(service, reading, text, out):
         count = len(septets)
     written = store(octets, out)
     return {"written": written, "count": count if service == SMS else 0, "coding": coding}
+
+
+def read_header(block):
+    """Refuses nothing."""
+    return header_of(block)
+
+
+def count_pages(reading, text):
+    """8, 1, 2, 3, 6, 5."""
+    octet_of(BROADCAST, reading)
+    return {"pages": len(pages_of(text_of(reading), text))}
+
+
+def build_page(sequence, identifier, reading, text, number):
+    """8, 1, 2, 3, 6, 5, 10."""
+    coding = octet_of(BROADCAST, reading)
+    pages = pages_of(text_of(reading), text)
+    if number < 1 or number > len(pages):
+        raise Refused(10)
+    return {"pages": len(pages),
+            "block": block_of(sequence, identifier, coding, len(pages), number, pages[number - 1])}
+
+
+def write_pages(sequence, identifier, reading, text, out):
+    """8, 1, 2, 3, 6, 5, 7."""
+    coding = octet_of(BROADCAST, reading)
+    pages = pages_of(text_of(reading), text)
+    octets = []
+    for number, page in enumerate(pages, 1):
+        octets += block_of(sequence, identifier, coding, len(pages), number, page)
+    return {"written": store(octets, out), "pages": len(pages)}
+
+
+def join_pages(octets, out):
+    """4 (no multiple of 88), 10 (no block), 1, 2, 3 (the first block), 10, 7."""
+    if len(octets) % BLOCK != 0:
+        raise Refused(4)
+    if not octets:
+        raise Refused(10)
+    blocks = [octets[at:at + BLOCK] for at in range(0, len(octets), BLOCK)]
+    first = header_of(blocks[0])
+    reading = reading_of(BROADCAST, first["coding"])
+    alphabet = text_of(reading)
+    check_pages(blocks)
+    written = store(joined_text(alphabet, blocks), out)
+    return {"written": written, "reading": reading, "sequence": first["sequence"], "identifier": first["identifier"],
+            "pages": first["total"]}

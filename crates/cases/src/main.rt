@@ -6,6 +6,11 @@ use answers::Answer;
 use answers::ReadAnswer;
 use libc::STDIN_FILENO;
 use libc::STDOUT_FILENO;
+use page_answers::Block;
+use page_answers::BlockHeader;
+use page_answers::JoinAnswer;
+use page_answers::PageAnswer;
+use page_answers::PagesAnswer;
 use printed::put;
 use values::Values;
 use values::end_at;
@@ -14,9 +19,10 @@ use values::part;
 use values::plain;
 use values::within;
 use values::within_units;
+use wikuay::broadcasts;
 
 // The lines so far, the cases among them, and those that differ; and how much of the present line has come, which stays at
-// 8193 for a line that is too long.
+// 16385 for a line that is too long.
 struct Totals {
     lines: u64,
     cases: u64,
@@ -85,6 +91,51 @@ fn read_answered(answer: ReadAnswer) -> Values {
     came
 }
 
+fn header_answered(answer: BlockHeader) -> Values {
+    let mut came = plain();
+    came.sequence = answer.sequence as usize;
+    came.identifier = answer.identifier as usize;
+    came.coding = answer.coding;
+    came.total = answer.total as usize;
+    came.number = answer.number as usize;
+    came
+}
+
+fn pages_answered(answer: PagesAnswer) -> Values {
+    let mut came = plain();
+    came.refusal = answer.refusal as usize;
+    came.position = answer.position;
+    came.written = answer.written;
+    came.pages = answer.pages as usize;
+    came.n = answer.written;
+    came
+}
+
+fn page_answered(answer: PageAnswer) -> Values {
+    let mut came = plain();
+    let block = answer.block;
+    let octets = block.octets;
+    came.refusal = answer.refusal as usize;
+    came.position = answer.position;
+    came.pages = answer.pages as usize;
+    came.block = octets;
+    came
+}
+
+fn join_answered(answer: JoinAnswer) -> Values {
+    let mut came = plain();
+    let reading = answer.reading;
+    came.refusal = answer.refusal as usize;
+    came.position = answer.position;
+    came.written = answer.written;
+    came.reading = reading;
+    came.sequence = answer.sequence as usize;
+    came.identifier = answer.identifier as usize;
+    came.pages = answer.pages as usize;
+    came.n = answer.written;
+    came
+}
+
 // Calls the library on what a case hands over: its answer, and what it leaves in the buffer of octets or in that of units.
 fn called(
     call: usize,
@@ -111,7 +162,42 @@ fn called(
             octets,
             text,
         )),
-        _ => answered(wikuay::wikuay_write_message(service, reading, units, out)),
+        8 => answered(wikuay::wikuay_write_message(service, reading, units, out)),
+        _ => called_paged(call, given, octets, units, out, text),
+    }
+}
+
+// The same of the calls with pages.
+fn called_paged(
+    call: usize,
+    given: Values,
+    octets: &[u8],
+    units: &[u16],
+    out: &mut [u8],
+    text: &mut [u16],
+) -> Values {
+    let sequence = (given.sequence % 65536) as u16;
+    let identifier = (given.identifier % 65536) as u16;
+    let reading = given.reading;
+    let block = given.block;
+    match call {
+        9 => header_answered(broadcasts::wikuay_read_header(Block { octets: block })),
+        10 => pages_answered(broadcasts::wikuay_count_pages(reading, units)),
+        11 => page_answered(broadcasts::wikuay_build_page(
+            sequence,
+            identifier,
+            reading,
+            units,
+            given.number,
+        )),
+        12 => pages_answered(broadcasts::wikuay_write_pages(
+            sequence,
+            identifier,
+            reading,
+            units,
+            out,
+        )),
+        _ => join_answered(broadcasts::wikuay_join_pages(octets, text)),
     }
 }
 
@@ -166,7 +252,7 @@ fn put_touched(
     out: &[u8],
     text: &[u16],
 ) -> usize {
-    let place = if call == 6 || call == 7 {
+    let place = if call == 6 || call == 7 || call == 13 {
         touched_unit(text, written)
     } else {
         touched_octet(out, written)
@@ -198,7 +284,7 @@ fn run(
 
 // How much of the text the pattern puts with the values; 0 where the text is another.
 fn spelled(pattern: &[u8], text: &[u8], values: Values, octets: &[u8], units: &[u16]) -> usize {
-    let mut again = [0u8; 8193];
+    let mut again = [0u8; 16385];
     let n = values::put_by(&mut again, pattern, values, octets, units);
     let k = within(n, &again);
     if check::same(part(text, 0, k), &again[..k]) {
@@ -210,7 +296,7 @@ fn spelled(pattern: &[u8], text: &[u8], values: Values, octets: &[u8], units: &[
 
 // Whether the text is an answer by the pattern, whatever it expects.
 fn is_answer(pattern: &[u8], text: &[u8]) -> bool {
-    let mut octets = [0u8; 4096];
+    let mut octets = [0u8; 8192];
     let mut units = [0u16; 4096];
     let values = values::take_by(pattern, text, &mut octets, &mut units);
     let n = spelled(pattern, text, values, &octets, &units);
@@ -233,10 +319,10 @@ fn judge_case(patterns: &[u8], line: &[u8], came: &mut [u8]) -> usize {
     if label == 0 {
         return 2;
     }
-    let mut octets = [0u8; 4096];
+    let mut octets = [0u8; 8192];
     let mut units = [0u16; 4096];
     let call = values::place_of(
-        b"read-coding|write-coding|holds-text|pack|unpack|text-to-septets|septets-to-text|read-message|write-message|",
+        b"read-coding|write-coding|holds-text|pack|unpack|text-to-septets|septets-to-text|read-message|write-message|read-header|count-pages|build-page|write-pages|join-pages|",
         part(text, 0, end_at(text, 0, 32)),
     );
     let inputs = values::nth(patterns, call % 16 * 2);
@@ -261,8 +347,8 @@ fn judge_case(patterns: &[u8], line: &[u8], came: &mut [u8]) -> usize {
 
 // Runs the case in a line, and answers whether it agrees.
 fn judge(patterns: &[u8], line: &[u8], number: u64, came: &mut [u8]) -> bool {
-    if 8192 < line.len() {
-        say_line(number, b": longer than 8192 characters\n");
+    if 16384 < line.len() {
+        say_line(number, b": longer than 16384 characters\n");
         return false;
     }
     let judged = judge_case(patterns, line, came);
@@ -349,11 +435,11 @@ fn feed_all(patterns: &[u8], chunk: &mut [u8], line: &mut [u8], came: &mut [u8])
 
 fn main() {
     let mut chunk = io::large_buffer();
-    let mut line = [0u8; 8193];
+    let mut line = [0u8; 16385];
     let mut came = [0u8; 20480];
     // Of each call, in the order of their numbers: its name and inputs, and its answer.
     let patterns =
-        b"read-coding service=S coding=C : |refusal=F position=P reading=R|write-coding service=S reading=R : |refusal=F position=P coding=C|holds-text reading=R : |refusal=F position=P holds=H|pack service=S septets=O room=M : |refusal=F position=P written=W count=N out=O|unpack service=S count=N octets=O room=M : |refusal=F position=P written=W out=O|text-to-septets text=U room=M : |refusal=F position=P written=W out=O|septets-to-text septets=O room=M : |refusal=F position=P written=W out=U|read-message service=S coding=C count=N octets=O room=M : |refusal=F position=P written=W reading=R out=U|write-message service=S reading=R text=U room=M : |refusal=F position=P written=W count=N coding=C out=O|";
+        b"read-coding service=S coding=C : |refusal=F position=P reading=R|write-coding service=S reading=R : |refusal=F position=P coding=C|holds-text reading=R : |refusal=F position=P holds=H|pack service=S septets=O room=M : |refusal=F position=P written=W count=N out=O|unpack service=S count=N octets=O room=M : |refusal=F position=P written=W out=O|text-to-septets text=U room=M : |refusal=F position=P written=W out=O|septets-to-text septets=O room=M : |refusal=F position=P written=W out=U|read-message service=S coding=C count=N octets=O room=M : |refusal=F position=P written=W reading=R out=U|write-message service=S reading=R text=U room=M : |refusal=F position=P written=W count=N coding=C out=O|read-header block=B : |sequence=Q identifier=I coding=C total=T number=K|count-pages reading=R text=U : |refusal=F position=P pages=G|build-page sequence=Q identifier=I reading=R text=U number=K : |refusal=F position=P pages=G block=B|write-pages sequence=Q identifier=I reading=R text=U room=M : |refusal=F position=P written=W pages=G out=O|join-pages octets=O room=M : |refusal=F position=P written=W reading=R sequence=Q identifier=I pages=G out=U|";
     let t = feed_all(patterns, &mut chunk, &mut line, &mut came);
     let total = if t.len == 0 {
         t

@@ -1,6 +1,7 @@
 // The values of a case by the letters of a pattern: taken out of a line, and put into a buffer.
-// F, P, W and N are the numbers refusal, position, written and count, M is the room, S the service, C a coding octet, R a reading, H what is
-// held, O octets and U units. Values are taken as they come: a line is a case where they put it again, letter by letter.
+// F, P, W, N, G, T and K are the numbers refusal, position, written, count, pages, total and number, Q and I are the pairs sequence and
+// identifier, M is the room, S the service, C a coding octet, R a reading, H what is held, B a block, O octets and U units. Values are taken as
+// they come: a line is a case where they put it again, letter by letter.
 use crate::reading;
 use names::ReadingNumbers;
 use printed::put;
@@ -18,6 +19,12 @@ pub(crate) struct Values {
     pub coding: u8,
     pub held: usize,
     pub reading: ReadingNumbers,
+    pub sequence: usize,
+    pub identifier: usize,
+    pub pages: usize,
+    pub total: usize,
+    pub number: usize,
+    pub block: [u8; 88],
     // How many octets or units there are.
     pub n: usize,
 }
@@ -33,6 +40,12 @@ pub(crate) fn plain() -> Values {
         coding: 0,
         held: 0,
         reading: reading::plain(),
+        sequence: 0,
+        identifier: 0,
+        pages: 0,
+        total: 0,
+        number: 0,
+        block: [0u8; 88],
         n: 0,
     }
 }
@@ -125,6 +138,17 @@ fn octet_of(word: &[u8]) -> u8 {
     one[0]
 }
 
+fn block_of(word: &[u8]) -> [u8; 88] {
+    let mut block = [0u8; 88];
+    typed::read_octets(word, &mut block);
+    block
+}
+
+// A number up to a limit, and 0 for one above, which no line puts again.
+fn up_to(limit: usize, n: usize) -> usize {
+    if n <= limit { n } else { 0 }
+}
+
 fn elements(answer: Elements) -> usize {
     match answer {
         Elements::Done(n) => n,
@@ -143,6 +167,11 @@ fn take(values: Values, letter: u8, word: &[u8], octets: &mut [u8], units: &mut 
         next.n = elements(typed::read_units(word, units));
         return next;
     }
+    if letter == b'B' {
+        let block = block_of(word);
+        next.block = block;
+        return next;
+    }
     let n = number_of(word);
     match letter {
         b'S' => next.service = place_of(b"sms|broadcast|ussd|old|", word),
@@ -153,7 +182,12 @@ fn take(values: Values, letter: u8, word: &[u8], octets: &mut [u8], units: &mut 
         b'P' => next.position = n,
         b'W' => next.written = n,
         b'N' => next.count = n,
-        _ => next.room = if n <= 4096 { n } else { 0 },
+        b'G' => next.pages = n,
+        b'T' => next.total = n,
+        b'K' => next.number = n,
+        b'Q' => next.sequence = up_to(65535, n),
+        b'I' => next.identifier = up_to(65535, n),
+        _ => next.room = up_to(4096, n),
     }
     next
 }
@@ -226,6 +260,7 @@ fn put_value(
     let one = [letter];
     let coding = [values.coding];
     let reading = values.reading;
+    let block = values.block;
     match letter {
         b'S' => put(out, at, nth(b"sms|broadcast|ussd|old|\n|", values.service)),
         b'H' => put(out, at, nth(b"none|7bit|ucs2|\n|", values.held)),
@@ -237,6 +272,12 @@ fn put_value(
         b'P' => put_number(out, at, values.position),
         b'W' => put_number(out, at, values.written),
         b'N' => put_number(out, at, values.count),
+        b'G' => put_number(out, at, values.pages),
+        b'T' => put_number(out, at, values.total),
+        b'K' => put_number(out, at, values.number),
+        b'Q' => put_number(out, at, values.sequence),
+        b'I' => put_number(out, at, values.identifier),
+        b'B' => printed::put_octets(out, at, &block),
         b'M' => put_number(out, at, values.room),
         _ => put(out, at, &one),
     }
