@@ -16,12 +16,28 @@ pub(crate) const USSD: usize = 2;
 
 pub(crate) const OLD: usize = 3;
 
-// The bits of the options in `given`.
-pub(crate) const CODING: u32 = 1;
+// A broadcast: the commands on several pages name no service.
+const CBS: usize = 1;
 
-const COUNT: u32 = 2;
+// The options by their numbers: the bits of `given`, and the places of `numbers`.
+const CODING: usize = 0;
 
-pub(crate) const UNITS: u32 = 4;
+pub(crate) const COUNT: usize = 1;
+
+pub(crate) const UNITS: usize = 2;
+
+pub(crate) const ROOM: usize = 3;
+
+pub(crate) const SEQUENCE: usize = 4;
+
+pub(crate) const IDENTIFIER: usize = 5;
+
+pub(crate) const PAGE: usize = 6;
+
+const JSON: usize = 7;
+
+// No more is typed or read: a text of 15 pages, each of its units in four digits, takes 5,580.
+pub(crate) const MOST: usize = 8192;
 
 pub(crate) struct Job {
     // What is wrong, and what is shown with it (fault::say).
@@ -43,8 +59,8 @@ pub(crate) struct Job {
     pub line: usize,
     pub layout: usize,
     pub coding: u8,
-    pub count: usize,
-    pub room: usize,
+    // The numbers of --count, --room, --sequence, --identifier and --page.
+    pub numbers: [usize; 8],
     // How long the text is, and how many units there are.
     pub len: usize,
     pub units: usize,
@@ -101,7 +117,10 @@ fn dashed(text: &[u8], at: usize) -> bool {
 }
 
 fn verb_of(word: &[u8]) -> usize {
-    place_of(b"write|read|coding|explain|pack|unpack|lines|help|", word)
+    place_of(
+        b"write|read|coding|explain|pack|unpack|pages|join|header|lines|help|",
+        word,
+    )
 }
 
 // The place of the next such mark from a place on, or the length, as where all of the rest is wanted.
@@ -117,14 +136,15 @@ fn end_at(text: &[u8], from: usize, mark: u8, rests: bool) -> usize
     text.len()
 }
 
-// Digits so far, and those of the present group; HEX is a group that `0x` opens and that has none yet.
+// Digits so far, and those of the present group; HEX is a group that `0x` opens and that has none yet. No group is so long, and it counts as whole
+// octets and units.
 struct Cleaned {
     n: usize,
     group: usize,
     last: u8,
 }
 
-const HEX: usize = 4000;
+const HEX: usize = 100000;
 
 // Takes in one letter: a blank or a colon closes a group, whose digits are whole numbers: `mask` has the bits that their count lacks. What
 // cannot be is a digit x, which is none.
@@ -192,16 +212,25 @@ impl Job {
         next
     }
 
-    // The value of --count or --room.
+    // Whether an option is given.
+    pub(crate) fn gives(self, option: usize) -> bool {
+        self.given >> (option % 8) & 1 == 1
+    }
+
+    // Whether a text is written: one word, or all of the rest of a line.
+    pub(crate) fn writes(self) -> bool {
+        self.verb == help::WRITE || self.verb == help::PAGES
+    }
+
+    // The value of an option that is a number.
     fn number(self, option: usize, word: &[u8], units: &mut [u16]) -> Job {
         let mut next = self;
         match typed::read_number(word) {
             Number::Is(n) => {
-                if option == 1 {
-                    next.count = n as usize;
-                } else {
-                    next.room = n as usize;
+                if 65535 < n && (option == SEQUENCE || option == IDENTIFIER) {
+                    return self.wrong(fault::PAIR, word, units);
                 }
+                next.numbers[option % 8] = n as usize;
                 next
             }
             Number::Nothing => {
@@ -218,15 +247,15 @@ impl Job {
         }
     }
 
-    // The value of an option by its number: --coding, --count, --units, --room.
+    // The value of an option.
     fn value(self, option: usize, word: &[u8], units: &mut [u16]) -> Job {
         let mut next = self;
         next.waiting = 0;
-        if option == 1 || option == 3 {
+        if option != CODING && option != UNITS {
             return next.number(option, word, units);
         }
-        let mut digits = io::buffer();
-        if option == 0 {
+        let mut digits = [0u8; MOST];
+        if option == CODING {
             let mut one = [0u8; 1];
             let n = clean(word, 1, &mut digits);
             if n != 2 {
@@ -255,16 +284,16 @@ impl Job {
         let mut next = self;
         let n = end_at(word, 0, b'=', false);
         let option = place_of(
-            b"--coding|--count|--units|--room|--json|--help|-h|--|",
+            b"--coding|--count|--units|--room|--sequence|--identifier|--page|--json|--help|-h|--|",
             &word[..n],
         );
         let whole = n == word.len();
-        if 7 < option || (4 <= option && !whole) {
+        if 10 < option || (JSON <= option && !whole) {
             return self.wrong(fault::OPTION, word, units);
         }
-        if 4 < option {
-            next.helps = self.helps || option < 7;
-            next.ended = option == 7;
+        if JSON < option {
+            next.helps = self.helps || option < 10;
+            next.ended = option == 10;
             return next;
         }
         let bit = 1u32 << option;
@@ -272,9 +301,9 @@ impl Job {
             return self.fails(fault::TWICE, 2 + option);
         }
         next.given = self.given | bit;
-        if option == 4 {
+        if option == JSON {
             if 0 < self.line {
-                return self.fails(fault::STRANGE, 6);
+                return self.fails(fault::STRANGE, 2 + JSON);
             }
             next.layout = tell::JSON;
             return next;
@@ -290,13 +319,13 @@ impl Job {
     fn text(self, word: &[u8], text: &mut [u8], units: &mut [u16]) -> Job {
         let mut next = self;
         let first = self.words == 3;
-        if self.input || (self.verb == help::WRITE && !first) {
+        if self.input || (self.writes() && !first) {
             return self.wrong(fault::MANY, word, units);
         }
         let from = tell::gap(text, self.len, first, b' ');
         next.len = put(text, from, word);
         next.input = self.line == 0 && !self.ended && word.len() == 1 && has(word, 0, b'-');
-        if 4096 < next.len {
+        if MOST < next.len {
             return self.fails(fault::LONG, 0);
         }
         next
@@ -317,8 +346,13 @@ impl Job {
             if named == help::VERBS {
                 return self.wrong(fault::VERB, word, units);
             }
-            if 0 < self.line && (named == help::EXPLAIN || help::UNPACK < named) {
+            if 0 < self.line && (named == help::EXPLAIN || help::HEADER < named) {
                 return self.wrong(fault::LINE, word, units);
+            }
+            // A command on several pages has no word for the service: the text or the octets come next.
+            if help::UNPACK < named && named <= help::HEADER {
+                next.service = CBS;
+                next.words = 2;
             }
             return next;
         }
@@ -373,7 +407,7 @@ impl Job {
 
     // Whether the text of a line comes next.
     fn rests(self) -> bool {
-        0 < self.line && self.verb == help::WRITE && self.words == 2 && self.waiting == 0
+        0 < self.line && self.writes() && self.words == 2 && self.waiting == 0
     }
 
     // Where the word that begins at a place ends. The text of a line is all of its rest, unless it is an option.
@@ -386,16 +420,17 @@ impl Job {
         end_at(request, at, mark, rests)
     }
 
-    // The options that the command takes.
+    // The options that the command takes, by their bits. A page alone comes by value, and takes no room.
     fn taken(self) -> u32 {
         let verb = self.verb;
         match verb {
-            help::WRITE => 29,
-            help::READ => 19,
+            help::WRITE => 141,
+            help::READ => 131,
             help::EXPLAIN => 3,
-            help::UNPACK => 18,
+            help::UNPACK => 130,
+            help::PAGES => if self.gives(PAGE) { 245 } else { 253 },
             help::HELP => 0,
-            _ => 16,
+            _ => 128,
         }
     }
 
@@ -403,7 +438,7 @@ impl Job {
     fn misfit(self) -> usize {
         let verb = self.verb;
         let given = self.given;
-        let odd = given & (31 - self.taken() % 32);
+        let odd = given & (255 - self.taken() % 256);
         let counts = verb == help::READ || verb == help::EXPLAIN || verb == help::UNPACK;
         if 0 < self.waiting {
             fault::VALUE * 16 + 1 + self.waiting % 8
@@ -413,15 +448,15 @@ impl Job {
             fault::NO_VERB * 16
         } else if odd != 0 {
             fault::STRANGE * 16 + 2 + (u32::trailing_zeros(odd) % 8) as usize
-        } else if help::UNPACK < verb {
+        } else if help::HEADER < verb {
             0
         } else if self.words < 2 {
             fault::NO_SERVICE * 16
-        } else if given & UNITS != 0 && 2 < self.words {
+        } else if self.gives(UNITS) && 2 < self.words {
             fault::MANY * 16 + 1
-        } else if given & UNITS == 0 && self.words < 3 {
+        } else if !self.gives(UNITS) && self.words < 3 {
             fault::MISSING * 16
-        } else if counts && self.service == SMS && given & COUNT == 0 {
+        } else if counts && self.service == SMS && !self.gives(COUNT) {
             fault::COUNT * 16
         } else {
             0
@@ -457,7 +492,7 @@ impl Job {
             next.verb = help::HELP;
             next.layout = tell::PEOPLE;
         }
-        if self.given & CODING == 0 && (self.service == 1 || self.service == USSD) {
+        if !self.gives(CODING) && (self.service == CBS || self.service == USSD) {
             next.coding = 15;
         }
         next
@@ -481,14 +516,13 @@ fn begun(line: usize, layout: usize, long: bool) -> Job {
         line: line,
         layout: layout,
         coding: 0,
-        count: 0,
-        room: 4096,
+        numbers: [0, 0, 0, MOST, 0, 0, 0, 0],
         len: 0,
         units: 0,
     }
 }
 
-// Reads a request: words with an octet 0 between them, or in a line with blanks, where the text of write is the rest of it as it is.
+// Reads a request: words with an octet 0 between them, or in a line with blanks, where a text is the rest of it as it is.
 pub(crate) fn read(
     request: &[u8],
     line: usize,
@@ -496,7 +530,7 @@ pub(crate) fn read(
     text: &mut [u8],
     units: &mut [u16],
 ) -> Job {
-    let mut job = begun(line, layout, 0 < line && 4096 < request.len());
+    let mut job = begun(line, layout, 0 < line && MOST < request.len());
     if 65535 < request.len() {
         return job.fails(fault::LONG, 0);
     }

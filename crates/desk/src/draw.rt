@@ -197,7 +197,8 @@ pub(crate) fn message(
     }
     let mut unpacked = [0u8; 182];
     let service = job.service;
-    let answer = wikuay::wikuay_unpack((service % 4) as u32, list, job.count, &mut unpacked);
+    let count = job.numbers[asked::COUNT];
+    let answer = wikuay::wikuay_unpack((service % 4) as u32, list, count, &mut unpacked);
     let n = tell::within(answer.written, &unpacked);
     let end = put(out, at, b"alphabet 7-bit\n");
     let end = octets(out, end, list);

@@ -41,8 +41,12 @@ pub(crate) const COUNT: usize = 19;
 
 pub(crate) const LINE: usize = 20;
 
+pub(crate) const PAIR: usize = 21;
+
+pub(crate) const BLOCK: usize = 22;
+
 // No fault of the request: the program cannot answer it.
-pub(crate) const UNREAD: usize = 21;
+pub(crate) const UNREAD: usize = 23;
 
 // Says what is wrong; shown with it is nothing (0), the units (1), or an option (2 and more).
 pub(crate) fn say(
@@ -60,7 +64,7 @@ pub(crate) fn say(
         at,
         layout,
         b"{error: |`error`<`}{|
-what is typed is longer than 4096 octets|
+what is typed is longer than 8192 octets|
 there is no such option; a text that begins with - stands behind --|
 the option has no value|
 the option is given twice|
@@ -79,8 +83,10 @@ a number is typed in decimal digits|
 a number is typed without a zero in front|
 the largest number is 4294967295|
 a short message is read with its length count; give --count|
-the command does not stand in a line}
-{|: ~|: --coding|: --count|: --units|: --room|: --json}`/",
+the command does not stand in a line|
+the largest sequence number or message identifier is 65535|
+a block is 88 octets, so 176 hexadecimal digits}
+{|: ~|: --coding|: --count|: --units|: --room|: --sequence|: --identifier|: --page|: --json}`/",
         &numbers,
         b"",
         units,

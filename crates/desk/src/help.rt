@@ -14,11 +14,17 @@ pub(crate) const PACK: usize = 4;
 
 pub(crate) const UNPACK: usize = 5;
 
-pub(crate) const LINES: usize = 6;
+pub(crate) const PAGES: usize = 6;
 
-pub(crate) const HELP: usize = 7;
+pub(crate) const JOIN: usize = 7;
 
-pub(crate) const VERBS: usize = 8;
+pub(crate) const HEADER: usize = 8;
+
+pub(crate) const LINES: usize = 9;
+
+pub(crate) const HELP: usize = 10;
+
+pub(crate) const VERBS: usize = 11;
 
 pub(crate) fn help(out: &mut [u8], at: usize, verb: usize) -> usize {
     match verb {
@@ -115,13 +121,62 @@ wikuay unpack sms --count 2 4121
   septets 4142
 ",
         ),
+        PAGES => put(
+            out,
+            at,
+            b"usage: wikuay pages TEXT [--sequence N] [--identifier N] [--coding OCTET] [--page K] [--room N] [--json]
+       wikuay pages --units UNITS [--sequence N] [--identifier N] [--coding OCTET] [--page K] [--room N] [--json]
+Writes a text as a broadcast message of 1 to 15 pages: how many they are, and a block of 88 octets for each.
+  TEXT             plain ASCII, typed as it is; - reads it from standard input, without its closing line end
+  --units UNITS    the text as UCS2 units instead, four hexadecimal digits each
+  --sequence N     the sequence number, 0 to 65535; if not given, 0
+  --identifier N   the message identifier, 0 to 65535; if not given, 0
+  --coding OCTET   write under what this coding octet says; if not given, 0F
+  --page K         this page alone, from 1
+  --room N         lend a buffer of N octets only, for all pages
+  --json           answer with one object of JSON
+wikuay pages --sequence 1 --identifier 50 'Snow from six'
+  pages 1
+  page 1 000100320F1153F7FB0E32CBDF6DD03C8D6F341A8D46A3D168341A8D46A3D168341A8D46A3D168341A8D46A3D168341A8D46A3D168341A8D46A3D168341A8D46A3D168341A8D46A3D168341A8D46A3D168341A8D46A3D100
+",
+        ),
+        JOIN => put(
+            out,
+            at,
+            b"usage: wikuay join BLOCKS [--json]
+Joins the pages of a broadcast message, in any order: the units of its text in hexadecimal, the text, and what its blocks say of it.
+  BLOCKS           88 octets for each page, two hexadecimal digits each; - reads them from standard input
+  --json           answer with one object of JSON
+wikuay join 000100320F1153F7FB0E32CBDF6DD03C8D6F341A8D46A3D168341A8D46A3D168341A8D46A3D168341A8D46A3D168341A8D46A3D168341A8D46A3D168341A8D46A3D168341A8D46A3D168341A8D46A3D168341A8D46A3D100
+  units 0053006E006F0077002000660072006F006D0020007300690078
+  text Snow from six
+  sequence 1
+  identifier 50
+  pages 1
+",
+        ),
+        HEADER => put(
+            out,
+            at,
+            b"usage: wikuay header BLOCK [--json]
+Reads what stands in a block in front of its text: the sequence number, the message identifier, the coding octet, which page it is and of how many.
+  BLOCK            88 octets, two hexadecimal digits each; - reads them from standard input
+  --json           answer with one object of JSON
+wikuay header 000100320F1153F7FB0E32CBDF6DD03C8D6F341A8D46A3D168341A8D46A3D168341A8D46A3D168341A8D46A3D168341A8D46A3D168341A8D46A3D168341A8D46A3D168341A8D46A3D168341A8D46A3D168341A8D46A3D100
+  sequence 1
+  identifier 50
+  coding 0F
+  page 1
+  pages 1
+",
+        ),
         LINES => put(
             out,
             at,
             b"usage: wikuay lines [--json]
-Reads one request a line from standard input, as it is typed behind wikuay: write, read, coding, pack or unpack.
+Reads one request a line from standard input, as it is typed behind wikuay: write, read, coding, pack, unpack, pages, join or header.
 Each is answered on one line, in order, with the number of its line. An empty line is passed by.
-The text of write is the rest of its line as it is; options stand before it, and -- before a text that begins with -.
+The text of write or pages is the rest of its line as it is; options stand before it, and -- before a text that begins with -.
   --json           answer each line with one object of JSON
 echo 'write sms Hello' | wikuay lines
   1 octets C8329BFD06 count 5 coding 00
@@ -142,6 +197,9 @@ fn general(out: &mut [u8], at: usize) -> usize {
        wikuay explain SERVICE OCTETS    a message drawn, septet by septet
        wikuay pack SERVICE SEPTETS      septets into octets
        wikuay unpack SERVICE OCTETS     octets into septets
+       wikuay pages TEXT                a text into the blocks of a broadcast message of several pages
+       wikuay join BLOCKS               blocks into text
+       wikuay header BLOCK              what stands in a block in front of its text
        wikuay lines                     many requests, one a line
        wikuay help COMMAND              more on a command, with its options and an example
        wikuay --version                 the version
@@ -152,7 +210,7 @@ fn general(out: &mut [u8], at: usize) -> usize {
         end,
         b"SERVICE is sms (a short message), cbs (a broadcast page), ussd or old (a page of 1991, read only).
 Octets and septets are typed as two hexadecimal digits each, units as four, in one word or several; colons, spaces and 0x may part them.
-- in the place of the text or of the octets reads it from standard input. At most 4096 octets are typed or read.
+- in the place of the text or of the octets reads it from standard input. At most 8192 octets are typed or read.
 An option stands anywhere, as --count 5 or as --count=5; behind -- everything is a word.
 A text is shown with \\uXXXX for a unit that is not plain ASCII, and \\\\ for a backslash.
 The exit status is 0 where it is answered, 1 where it is refused, 2 where the usage is wrong, 3 where the command cannot run.

@@ -1,5 +1,6 @@
-// The command: texts written as messages, messages read and drawn, coding octets told, by the proved library.
+// The command: texts written as messages of one page or several, messages read, joined and drawn, coding octets told, by the proved library.
 mod asked;
+mod broadcast;
 mod draw;
 mod fault;
 mod help;
@@ -25,7 +26,7 @@ fn unread() {
 fn gather(line: &mut [u8]) -> usize
     ensures { λ r. ⌜ Counts r (now (line .exit)) ⌝ }
 {
-    let mut word = io::buffer();
+    let mut word = [0u8; asked::MOST];
     let mut at: usize = 0;
     for i in 1..os::arg_count() {
         let n = os::arg(i, &mut word);
@@ -70,7 +71,7 @@ fn with_input(job: Job, text: &mut [u8]) -> Job {
     let n = io::read_full(STDIN_FILENO, text);
     let more = read_more();
     next.len = without_end(text, n);
-    if 0 < more || 4096 < next.len {
+    if 0 < more || asked::MOST < next.len {
         next.fault = fault::LONG;
     }
     if more < 0 {
@@ -84,8 +85,8 @@ fn request(line: &[u8], number: usize, layout: usize, out: &mut [u8]) -> usize {
     if 0 < number && line.len() == 0 {
         return 0;
     }
-    let mut text = [0u8; 4098];
-    let mut units = [0u16; 4096];
+    let mut text = [0u8; asked::MOST + 2];
+    let mut units = [0u16; asked::MOST];
     let asked = asked::read(line, number, layout, &mut text, &mut units);
     if asked.fault == 0 && asked.verb == help::LINES {
         return tell::more(asked.layout);
@@ -178,7 +179,7 @@ fn main() {
     let n = gather(&mut line);
     let flows = request(&line[..n], 0, tell::PEOPLE, &mut out);
     if 0 < flows {
-        let mut short = [0u8; 4098];
+        let mut short = [0u8; asked::MOST + 2];
         let layout = if flows == 1 { tell::WORDS } else { tell::JSON };
         lines(layout, &mut short, &mut out);
     }

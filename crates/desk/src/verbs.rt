@@ -1,6 +1,7 @@
-// The commands on a service: each calls the library and tells its answer.
+// The commands on a message or a page: each calls the library and tells its answer.
 use crate::asked;
 use crate::asked::Job;
+use crate::broadcast;
 use crate::draw;
 use crate::fault;
 use crate::help;
@@ -39,7 +40,8 @@ the text is over the service's size|
 a unit is not in the alphabet|
 the buffer is too short|
 the reading cannot be written under this service|
-a septet is 128 or more}`/",
+a septet is 128 or more|
+the pages or parts are not those of one message}`/",
         &numbers,
     )
 }
@@ -47,7 +49,7 @@ a septet is 128 or more}`/",
 // How what was refused is shown.
 const OF_CODING: usize = 0;
 
-const OF_OCTETS: usize = 1;
+pub(crate) const OF_OCTETS: usize = 1;
 
 const OF_SEPTETS: usize = 2;
 
@@ -55,13 +57,15 @@ const OF_UNITS: usize = 3;
 
 const OF_TEXT: usize = 4;
 
+pub(crate) const OF_PAGE: usize = 5;
+
 fn shown(out: &mut [u8], at: usize, kind: usize, octets: &[u8], units: &[u16]) -> usize {
     let numbers = [kind];
     tell::tell(
         out,
         at,
         tell::PEOPLE,
-        b"{coding @|octets @|septets @|units %|text ~}",
+        b"{coding @|octets @|septets @|units %|text ~|page ~}",
         &numbers,
         octets,
         units,
@@ -87,7 +91,7 @@ fn pointed(
 }
 
 // A refusal, with what was refused where a person reads it. Of a message 1, 2, 3 and 8 are of its coding octet.
-fn refuse(
+pub(crate) fn refuse(
     out: &mut [u8],
     at: usize,
     job: Job,
@@ -108,6 +112,23 @@ fn refuse(
     }
 }
 
+// A refusal of a text, which is shown as it was typed.
+pub(crate) fn refuse_text(
+    out: &mut [u8],
+    at: usize,
+    job: Job,
+    refusal: u32,
+    position: usize,
+    units: &[u16],
+) -> usize {
+    let kind = if job.gives(asked::UNITS) {
+        OF_UNITS
+    } else {
+        OF_TEXT
+    };
+    refuse(out, at, job, kind, refusal, position, b"", units)
+}
+
 // The call is lent the front of the buffer, as long as the room asked for.
 fn write_into(
     service: u32,
@@ -122,29 +143,21 @@ fn write_into(
 
 fn write(out: &mut [u8], at: usize, job: Job, units: &[u16]) -> usize {
     let mut octets = [0u8; 160];
-    let kind = if job.given & asked::UNITS != 0 {
-        OF_UNITS
-    } else {
-        OF_TEXT
-    };
     let service = (job.service % 4) as u32;
     let read = wikuay::wikuay_read_coding(service, job.coding);
     let reading = read.reading;
     if read.refusal != 0 {
-        return refuse(out, at, job, kind, read.refusal, read.position, b"", units);
+        return refuse_text(out, at, job, read.refusal, read.position, units);
     }
-    let answer = write_into(service, reading, units, job.room, &mut octets);
+    let answer = write_into(
+        service,
+        reading,
+        units,
+        job.numbers[asked::ROOM],
+        &mut octets,
+    );
     if answer.refusal != 0 {
-        return refuse(
-            out,
-            at,
-            job,
-            kind,
-            answer.refusal,
-            answer.position,
-            b"",
-            units,
-        );
+        return refuse_text(out, at, job, answer.refusal, answer.position, units);
     }
     let k = tell::within(answer.written, &octets);
     let numbers = [answer.count as usize, answer.coding as usize];
@@ -191,7 +204,8 @@ fn pack(out: &mut [u8], at: usize, job: Job, septets: &[u8]) -> usize {
 fn unpack(out: &mut [u8], at: usize, job: Job, octets: &[u8]) -> usize {
     let mut septets = [0u8; 182];
     let none = [0u16; 1];
-    let answer = wikuay::wikuay_unpack((job.service % 4) as u32, octets, job.count, &mut septets);
+    let count = job.numbers[asked::COUNT];
+    let answer = wikuay::wikuay_unpack((job.service % 4) as u32, octets, count, &mut septets);
     if answer.refusal != 0 {
         return refuse(
             out,
@@ -221,7 +235,8 @@ fn read(out: &mut [u8], at: usize, job: Job, octets: &[u8]) -> usize {
     let mut units = [0u16; 182];
     let numbers = [0usize];
     let service = (job.service % 4) as u32;
-    let answer = wikuay::wikuay_read_message(service, job.coding, job.count, octets, &mut units);
+    let count = job.numbers[asked::COUNT];
+    let answer = wikuay::wikuay_read_message(service, job.coding, count, octets, &mut units);
     let reading = answer.reading;
     if answer.refusal != 0 {
         return refuse(
@@ -361,7 +376,7 @@ fn complain(out: &mut [u8], at: usize, job: Job, units: &[u16]) -> usize {
 
 // The octets that a text spells, and how many there are; 9999 where it spells none.
 fn octets_of(text: &[u8], octets: &mut [u8]) -> usize {
-    let mut digits = io::buffer();
+    let mut digits = [0u8; asked::MOST];
     let n = asked::clean(text, 1, &mut digits);
     match typed::read_octets(&digits[..n], octets) {
         Elements::Done(k) => k,
@@ -370,7 +385,7 @@ fn octets_of(text: &[u8], octets: &mut [u8]) -> usize {
 }
 
 fn on_octets(out: &mut [u8], at: usize, job: Job, text: &[u8], units: &mut [u16]) -> usize {
-    let mut octets = [0u8; 2048];
+    let mut octets = [0u8; 4096];
     let n = octets_of(text, &mut octets);
     let k = tell::within(n, &octets);
     let verb = job.verb;
@@ -378,6 +393,8 @@ fn on_octets(out: &mut [u8], at: usize, job: Job, text: &[u8], units: &mut [u16]
         fault::OCTETS
     } else if verb == help::CODING && k != 1 {
         fault::CODING
+    } else if verb == help::HEADER && k != 88 {
+        fault::BLOCK
     } else {
         0
     };
@@ -388,13 +405,15 @@ fn on_octets(out: &mut [u8], at: usize, job: Job, text: &[u8], units: &mut [u16]
         help::CODING => coding(out, at, job, octets[0]),
         help::PACK => pack(out, at, job, &octets[..k]),
         help::UNPACK => unpack(out, at, job, &octets[..k]),
+        help::JOIN => broadcast::join(out, at, job, &octets[..k]),
+        help::HEADER => broadcast::header(out, at, job, &octets[..k]),
         _ => read(out, at, job, &octets[..k]),
     }
 }
 
 // The units of a text that is written, and how many there are; 9999 where it cannot be typed so.
 fn units_of(job: Job, text: &[u8], units: &mut [u16]) -> usize {
-    if job.given & asked::UNITS != 0 {
+    if job.gives(asked::UNITS) {
         return job.units;
     }
     if wide::first_wide(text) < text.len() {
@@ -411,13 +430,16 @@ pub(crate) fn answer(out: &mut [u8], at: usize, job: Job, text: &[u8], units: &m
     if job.verb == help::HELP {
         return help::help(out, at, job.topic);
     }
-    if job.verb != help::WRITE {
+    if !job.writes() {
         return on_octets(out, at, job, text, units);
     }
     let n = units_of(job, text, units);
     let k = tell::within_units(n, units);
     if k < n {
         return complain(out, at, job.fails(fault::ASCII, 0), units);
+    }
+    if job.verb == help::PAGES {
+        return broadcast::write(out, at, job, &units[..k]);
     }
     write(out, at, job, &units[..k])
 }

@@ -12,9 +12,6 @@ Inv-loop line₀ word₀ at₀ i₀ i-end line word at i = (length line ≡ leng
 abbrev μ-loop : tie.MeasureT-loop
 μ-loop line₀ word₀ at₀ i₀ i-end line word at i = i-end - i
 
-buffer-requires : tie.Need-buffer-requires Inv-loop μ-loop
-buffer-requires c κs = search needs
-
 arg-count-requires : tie.Need-arg-count-requires Inv-loop μ-loop
 arg-count-requires c κs = search needs
 
@@ -75,7 +72,6 @@ gather-spec =
     (tie.spec
     Inv-loop
     μ-loop
-    buffer-requires
     arg-count-requires
     loop-holds
     slice-aggregate-arg
