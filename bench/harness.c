@@ -20,8 +20,8 @@
 enum { ROUNDS = 31, COUNTS = 3, MOST_SIDES = 8 };
 
 static one_case given;
-static uint8_t octets[ROOM_OCTETS];
-static uint16_t units[ROOM_UNITS];
+static uint8_t octets[PAGES_OCTETS];
+static uint16_t units[PAGES_UNITS];
 
 static void out_to_answer(one_answer *got) {
   if (given.writing) memcpy(got->octets, octets, sizeof octets);
@@ -35,11 +35,27 @@ static const char *nothing_to_load(void) { return NULL; }
 static wikuay_answer wrote;
 static wikuay_read_answer read;
 static wikuay_reading reading;
+static wikuay_pages_answer paged;
+static wikuay_page_answer built;
+static wikuay_join_answer joined;
+static size_t number; /* of the page that is built: the last one */
+
+enum { SEQUENCE = 0x1234, IDENTIFIER = 50 };
+
+/* How much of a text a page holds. */
+static size_t page_room(void) { return given.alphabet == 2 ? 41 : 93; }
 
 static const char *ours_prepare(const one_case *c) {
   reading = wikuay_plain();
   reading.alphabet = c->alphabet;
+  number = c->length == 0 ? 1 : (c->length + page_room() - 1) / page_room();
   return NULL;
+}
+
+static void ours_run_pages(void) {
+  if (given.service == BUILT) built = wikuay_build_page(SEQUENCE, IDENTIFIER, reading, given.text, given.units, number);
+  else if (given.writing) paged = wikuay_write_pages(SEQUENCE, IDENTIFIER, reading, given.text, given.units, octets, PAGES_OCTETS);
+  else joined = wikuay_join_pages(given.octets, given.octets_len, units, PAGES_UNITS);
 }
 
 static void ours_run(void) {
@@ -47,7 +63,11 @@ static void ours_run(void) {
   else read = wikuay_read_message(given.service, given.coding, given.count, given.octets, given.octets_len, units, ROOM_UNITS);
 }
 
-static call ours_entry(void) { return given.writing ? (call)wikuay_write_message : (call)wikuay_read_message; }
+static call ours_entry(void) {
+  if (given.service == BUILT) return (call)wikuay_build_page;
+  if (given.service == PAGES) return given.writing ? (call)wikuay_write_pages : (call)wikuay_join_pages;
+  return given.writing ? (call)wikuay_write_message : (call)wikuay_read_message;
+}
 
 static void to_answer(one_answer *got, wikuay_answer wrote, wikuay_read_answer read) {
   got->refusal = given.writing ? wrote.refusal : read.refusal;
@@ -58,32 +78,73 @@ static void to_answer(one_answer *got, wikuay_answer wrote, wikuay_read_answer r
   out_to_answer(got);
 }
 
-static void ours_answer(one_answer *got) { to_answer(got, wrote, read); }
+/* The same of several pages. */
+static void pages_to_answer(one_answer *got, wikuay_pages_answer paged, const wikuay_page_answer *built, wikuay_join_answer joined) {
+  got->coding = 0;
+  got->numbers = 0;
+  if (given.service == BUILT) {
+    got->refusal = built->refusal;
+    got->position = built->position;
+    got->count = built->pages;
+    got->written = built->refusal == 0 ? BLOCK : 0;
+    memcpy(got->octets, built->block.octets, BLOCK);
+    return;
+  }
+  got->refusal = given.writing ? paged.refusal : joined.refusal;
+  got->position = given.writing ? paged.position : joined.position;
+  got->count = given.writing ? paged.pages : joined.pages;
+  got->written = given.writing ? paged.written : joined.written;
+  if (!given.writing) {
+    got->coding = joined.reading.alphabet;
+    got->numbers = (uint32_t)joined.sequence << 16 | joined.identifier;
+  }
+  out_to_answer(got);
+}
 
-static const side ours = { "wikuay", nothing_to_load, ours_prepare, ours_run, ours_answer };
+static void ours_answer(one_answer *got) {
+  if (given.service >= PAGES) pages_to_answer(got, paged, &built, joined);
+  else to_answer(got, wrote, read);
+}
+
+static const side ours = { "wikuay", nothing_to_load, ours_prepare, ours_run, ours_run_pages, ours_answer };
 
 /* ---- the plain C loop ---- */
 
 static wikuay_answer plain_wrote;
 static wikuay_read_answer plain_got;
+static wikuay_pages_answer plain_paged;
+static wikuay_page_answer plain_built;
+static wikuay_join_answer plain_joined;
+
+static void plain_run_pages(void) {
+  if (given.service == BUILT) plain_built = plain_build_page(SEQUENCE, IDENTIFIER, reading, given.text, given.units, number);
+  else if (given.writing)
+    plain_paged = plain_write_pages(SEQUENCE, IDENTIFIER, reading, given.text, given.units, octets, PAGES_OCTETS);
+  else plain_joined = plain_join_pages(given.octets, given.octets_len, units, PAGES_UNITS);
+}
 
 static void plain_run(void) {
   if (given.writing) plain_wrote = plain_write(given.service, reading, given.text, given.units, octets, ROOM_OCTETS);
   else plain_got = plain_read(given.service, given.coding, given.count, given.octets, given.octets_len, units, ROOM_UNITS);
 }
 
-static void plain_result(one_answer *got) { to_answer(got, plain_wrote, plain_got); }
+static void plain_result(one_answer *got) {
+  if (given.service >= PAGES) pages_to_answer(got, plain_paged, &plain_built, plain_joined);
+  else to_answer(got, plain_wrote, plain_got);
+}
 
-static const side plain = { "plain", nothing_to_load, ours_prepare, plain_run, plain_result };
+static const side plain = { "plain", nothing_to_load, ours_prepare, plain_run, plain_run_pages, plain_result };
 
 /* ---- the floors: a copy of the message's octets, and for UCS2 the loop that swaps them ---- */
 
-static uint8_t copied[512];
+static uint8_t copied[PAGES_OCTETS];
 
 /* The texts of these kinds are refused for their last unit. */
 static int is_refused(const char *kind) { return strcmp(kind, "refused") == 0 || strcmp(kind, "circumflex") == 0; }
 
-static const char *copy_prepare(const one_case *c) { return is_refused(c->kind) ? "has no octets here" : NULL; }
+static const char *copy_prepare(const one_case *c) {
+  return is_refused(c->kind) || c->service == BUILT ? "has no octets here" : NULL;
+}
 
 static void copy_run(void) { memcpy(copied, given.octets, given.octets_len); }
 
@@ -95,9 +156,11 @@ static void copy_answer(one_answer *got) {
   }
 }
 
-static const side copy = { "copy", nothing_to_load, copy_prepare, copy_run, copy_answer };
+static const side copy = { "copy", nothing_to_load, copy_prepare, copy_run, copy_run, copy_answer };
 
-static const char *swap_prepare(const one_case *c) { return c->alphabet == 2 ? NULL : "is for UCS2"; }
+static const char *swap_prepare(const one_case *c) {
+  return c->alphabet == 2 && c->service == SMS ? NULL : "is for UCS2 in one message";
+}
 
 static void swap_run(void) {
   if (given.writing) plain_swap_out(given.text, given.units, octets);
@@ -109,7 +172,7 @@ static void swap_answer(one_answer *got) {
   out_to_answer(got);
 }
 
-static const side swap = { "swap", nothing_to_load, swap_prepare, swap_run, swap_answer };
+static const side swap = { "swap", nothing_to_load, swap_prepare, swap_run, NULL, swap_answer };
 
 /* ---- one case ---- */
 
@@ -121,14 +184,18 @@ static int plain_differs;
 static int counts_len = COUNTS;
 
 static const char *service_name(void) {
-  static const char *const names[] = { "sms", "page", "ussd" };
-  return given.alphabet == 2 ? "sms-ucs2" : names[given.service];
+  static const char *const names[][2] = {
+    { "sms", "sms-ucs2" }, { "page", "" }, { "ussd", "" }, { "pages", "pages-ucs2" }, { "built", "built-ucs2" },
+  };
+  return names[given.service][given.alphabet == 2];
 }
+
+static call call_of(const side *s) { return given.service >= PAGES ? s->run_pages : s->run; }
 
 static void run_side(const side *s, one_answer *got) {
   memset(octets, 0xA5, sizeof octets);
   memset(units, 0xA5, sizeof units);
-  s->run();
+  call_of(s)();
   s->answer(got);
 }
 
@@ -138,14 +205,14 @@ static void say_answer(const one_answer *a) {
     return;
   }
   fprintf(stderr, "%zu %s, count %u, the last", a->written, given.writing ? "octets" : "units", (unsigned)a->count);
-  for (size_t i = a->written > 3 ? a->written - 3 : 0; i < a->written && i < 512; i++)
+  for (size_t i = a->written > 3 ? a->written - 3 : 0; i < a->written && i < PAGES_OCTETS; i++)
     fprintf(stderr, given.writing ? " %02X" : " %04X", given.writing ? a->octets[i] : a->units[i]);
 }
 
 static int same(const one_answer *a, const one_answer *b) {
   if (a->refusal != b->refusal || a->position != b->position || a->written != b->written) return 0;
   if (a->refusal != 0) return 1;
-  if (a->count != b->count || a->coding != b->coding) return 0;
+  if (a->count != b->count || a->coding != b->coding || a->numbers != b->numbers) return 0;
   return given.writing ? memcmp(a->octets, b->octets, a->written) == 0
                        : memcmp(a->units, b->units, a->written * sizeof a->units[0]) == 0;
 }
@@ -161,7 +228,7 @@ static int by_count(const void *a, const void *b) {
 }
 
 static void do_case(void) {
-  one_answer expected, got;
+  static one_answer expected, got;
   const char *verdict[MOST_SIDES];
   static double ns[MOST_SIDES][ROUNDS], ratio[MOST_SIDES][ROUNDS];
 
@@ -193,14 +260,14 @@ static void do_case(void) {
       if (strcmp(verdict[s], "same") != 0) continue;
       sides[s]->prepare(&given);
       times[s] = 16;
-      while (times[s] < 1u << 24 && meter_time(sides[s]->run, times[s]) * (double)times[s] < 400e3) times[s] *= 2;
+      while (times[s] < 1u << 24 && meter_time(call_of(sides[s]), times[s]) * (double)times[s] < 400e3) times[s] *= 2;
     }
     /* The sides take turns in every round, so that what slows the machine slows all of them. */
     for (int r = 0; r < ROUNDS; r++)
       for (int s = 0; s < sides_len; s++) {
         if (strcmp(verdict[s], "same") != 0) continue;
         sides[s]->prepare(&given);
-        ns[s][r] = meter_time(sides[s]->run, times[s]);
+        ns[s][r] = meter_time(call_of(sides[s]), times[s]);
         ratio[s][r] = ns[s][r] / ns[0][r];
       }
   }
@@ -219,7 +286,7 @@ static void do_case(void) {
              ratio[s][ROUNDS / 2], ratio[s][ROUNDS / 4], ratio[s][ROUNDS * 3 / 4]);
     } else {
       unsigned long counts[COUNTS];
-      for (int c = 0; c < counts_len; c++) counts[c] = meter_instructions(sides[s]->run);
+      for (int c = 0; c < counts_len; c++) counts[c] = meter_instructions(call_of(sides[s]));
       qsort(counts, (size_t)counts_len, sizeof counts[0], by_count);
       if (counts[0] != counts[counts_len - 1]) {
         /* A peer that asks for storage depends on what the storage held before: its median stands. */
@@ -227,7 +294,7 @@ static void do_case(void) {
         if (sides[s] == &ours || sides[s] == &plain) exit(1);
       }
       unsigned long middle = counts[counts_len / 2];
-      if (sides[s] == &ours) printf("\t%lu\t%lu\n", middle, meter_stack(sides[s]->run, ours_entry()));
+      if (sides[s] == &ours) printf("\t%lu\t%lu\n", middle, meter_stack(call_of(sides[s]), ours_entry()));
       else printf("\t%lu\t-\n", middle);
     }
   }
@@ -252,17 +319,24 @@ static void make_text(size_t length) {
   if (strcmp(given.kind, "accent") == 0) given.text[given.units - 1] = 0x00E9;
 }
 
-/* To read, and to copy: what the library writes for the text. */
+/* To read, and to copy: what the library writes for the text. To be joined, the last page comes first. */
 static void write_octets(void) {
   int writing = given.writing;
+  if (given.service == BUILT) return;
   given.writing = 1;
   ours_prepare(&given);
-  ours_run();
+  call_of(&ours)();
+  given.writing = writing;
+  if (given.service == PAGES) {
+    given.octets_len = paged.written;
+    for (size_t from = 0; from < paged.written; from += BLOCK)
+      memcpy(given.octets + (writing ? from : paged.written - BLOCK - from), octets + from, BLOCK);
+    return;
+  }
   memcpy(given.octets, octets, wrote.written);
   given.octets_len = wrote.written;
   given.coding = wrote.coding;
   given.count = wrote.count;
-  given.writing = writing;
 }
 
 static void do_text(const char *kind, size_t most, int all) {
@@ -282,6 +356,46 @@ static void do_text(const char *kind, size_t most, int all) {
   }
 }
 
+/* Several pages: each filled to its end, with `all` every number of them, and a text that is one over the end of the first and of the last. */
+static void do_pages(const char *kind, int all) {
+  static const size_t listed[] = { 0, 1, 2, 15 };
+  int two = strcmp(kind, "extension") == 0;
+  given.kind = kind;
+  fprintf(stderr, "bench: %s %s %s\n", given.writing ? "write" : "read", service_name(), kind);
+  for (size_t i = 0; all ? i <= 15 : i < sizeof listed / sizeof listed[0]; i++) {
+    size_t pages = all ? i : listed[i];
+    for (size_t over = 0; over <= 1; over++) {
+      size_t length = pages * page_room() + over;
+      if (over == 1 && pages > 1 && pages != 14) continue;
+      if (length == 0 && (two || is_refused(kind) || strcmp(kind, "accent") == 0)) continue;
+      /* An extension letter takes two septets: a page of an odd length is one short, and one over it is two letters. */
+      if (two && length % 2 != 0 && over == 1) continue;
+      if (two && length % 2 != 0) length--;
+      make_text(length);
+      write_octets();
+      do_case();
+    }
+  }
+}
+
+/* One count does: other texts show that it repeats. */
+static void do_all_pages(int all) {
+  int counts = counts_len;
+  counts_len = 1;
+  for (given.service = PAGES; given.service <= BUILT; given.service++) {
+    if (given.service == BUILT && !given.writing) continue;
+    given.alphabet = 0;
+    do_pages("letters", all);
+    do_pages("accent", all);
+    do_pages("extension", all);
+    if (given.writing) do_pages("refused", all);
+    if (given.writing) do_pages("circumflex", all);
+    given.alphabet = 2;
+    do_pages("han", all);
+  }
+  counts_len = counts;
+}
+
 /* ---- the library's other calls: instructions and stack, with nothing beside them ---- */
 
 static uint8_t septets[182];
@@ -294,6 +408,9 @@ static void run_text_to_septets(void) { wrote = wikuay_text_to_septets(given.tex
 static void run_septets_to_text(void) { wrote = wikuay_septets_to_text(septets, 182, units, 182); }
 static void run_pack(void) { wrote = wikuay_pack(WIKUAY_USSD, septets, 182, octets, 160); }
 static void run_unpack(void) { wrote = wikuay_unpack(WIKUAY_USSD, octets, 160, 0, septets, 182); }
+static void run_count_pages(void) { paged = wikuay_count_pages(reading, given.text, PAGES_UNITS); }
+static wikuay_block_header header;
+static void run_read_header(void) { header = wikuay_read_header(built.block); }
 static void run_old_page(void) { read = wikuay_read_message(WIKUAY_OLD_PAGE, 0, 0, octets, 82, units, ROOM_UNITS); }
 
 static void do_other_calls(void) {
@@ -311,14 +428,16 @@ static void do_other_calls(void) {
     { "wikuay_pack", "USSD, letters", 182, run_pack, (call)wikuay_pack },
     { "wikuay_unpack", "USSD, letters", 182, run_unpack, (call)wikuay_unpack },
     { "wikuay_read_message", "old page, letters", 93, run_old_page, (call)wikuay_read_message },
+    { "wikuay_count_pages", "letters", PAGES_UNITS, run_count_pages, (call)wikuay_count_pages },
+    { "wikuay_read_header", "a block", 0, run_read_header, (call)wikuay_read_header },
   };
   fprintf(stderr, "bench: the other calls\n");
   given.kind = "letters";
-  make_text(182);
+  make_text(PAGES_UNITS);
   reading = wikuay_plain();
   for (size_t i = 0; i < sizeof others / sizeof others[0]; i++) {
     others[i].run();
-    if (wrote.refusal != 0 || read.refusal != 0) {
+    if (wrote.refusal != 0 || read.refusal != 0 || paged.refusal != 0) {
       fprintf(stderr, "bench: %s refuses\n", others[i].name);
       exit(1);
     }
@@ -412,6 +531,7 @@ int main(int words_len, char **words) {
     given.alphabet = 2;
     given.service = SMS;
     do_text("han", 70, all);
+    do_all_pages(all);
   }
   if (!timing) do_other_calls();
   return plain_differs;

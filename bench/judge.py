@@ -13,13 +13,23 @@ Row = collections.namedtuple("Row", "direction service text length side answer c
 
 # Instructions to write and to read 160 letters as a 7-bit short message. The other services cost the same a septet.
 MOST = {"write": 2000, "read": 1600}
-FULL = {"sms": 160, "page": 93, "ussd": 182}
+FULL = {"sms": 160, "page": 93, "ussd": 182, "pages": 1395}
 FULL_UCS2 = 70
+# Messages of several pages, all of them and the last one alone: what a page of each holds, septets or units.
+PAGED = {"pages": 93, "pages-ucs2": 41, "built": 93, "built-ucs2": 41}
+MOST_PAGES = 15
+# Texts that fill a page to its end, so that a page of them is a part of many.
+LINEAR = ("letters", "han")
+# How often the plain loop's cost is allowed, where once is not kept: of UCS2 the plain loop is vector code from end to end, and a page built
+# of extension letters pays for the septets of all pages.
+TIMES = {("write", "pages-ucs2"): 1.5, ("write", "built-ucs2"): 1.75, ("read", "pages-ucs2"): 3, ("write", "built"): 1.2}
 # Texts that are refused for their last unit, and the accepted text that the same pass judges: its last unit is listed, and is not its own code.
 REFUSED = ("refused", "circumflex")
 ACCEPTED = "accent"
 ARCHIVE_OCTETS = 32 * 1024
 STACK_OCTETS = 1024
+# The septets of 15 pages stand in an array of 1,395 octets, their units of UCS2 in one of 1,230.
+PAGED_STACK_OCTETS = 2304
 # From this length on the library is at least as fast as the plain loop. Eight units with an accented one are tested in vain, and lose a tenth.
 FROM = 8
 FROM_ACCEPTED = 9
@@ -67,17 +77,24 @@ def broken_by_figures(rows, timed):
             if not timed:
                 accepted = cost.get((r.direction, r.service, ACCEPTED, r.length, "wikuay"))
                 hold(f"{name}: a refusal against the accepted text", r.cost, accepted)
-        elif r.service in FULL and r.length >= (FROM_ACCEPTED if r.text == ACCEPTED else FROM):
+        elif (r.service in FULL or r.service in PAGED) and r.length >= (FROM_ACCEPTED if r.text == ACCEPTED else FROM):
             plain = cost.get(key + ("plain",))
             # The spread of a time is not a fault: a tenth is allowed there.
-            hold(f"{name}: against the plain loop", r.cost, plain and plain * (1.1 if timed else 1))
+            times = TIMES.get((r.direction, r.service), 1) * (1.1 if timed else 1)
+            hold(f"{name}: against the plain loop", r.cost, plain and plain * times)
         if not timed and r.text == "letters" and r.length == FULL.get(r.service):
             hold(f"{name}: instructions", r.cost, MOST[r.direction] * r.length // FULL["sms"])
+        if not timed and r.service in PAGED and r.text in LINEAR:
+            # Whole pages cost no more than as many messages of one page.
+            pages, over = divmod(r.length, PAGED[r.service])
+            single = cost.get((r.direction, r.service, r.text, PAGED[r.service], "wikuay"))
+            if pages > 1 and over == 0:
+                hold(f"{name}: against as many single pages", r.cost, single and pages * single)
         if not timed and r.service == "sms-ucs2" and r.length == FULL_UCS2:
             swap = cost.get(key + ("swap",))
             hold(f"{name}: against twice the loop that swaps", r.cost, swap and 2 * swap)
         if not timed:
-            hold(f"{name}: octets of stack", r.stack, STACK_OCTETS - 1)
+            hold(f"{name}: octets of stack", r.stack, (PAGED_STACK_OCTETS if r.service in PAGED else STACK_OCTETS) - 1)
     return broken, judged
 
 
@@ -150,6 +167,12 @@ def self_test():
                     rows.append(Row(direction, service, text, length, "plain", "same", 9.0 * length, None))
         for side, each in (("wikuay", 8), ("plain", 6), ("swap", 4)):
             rows.append(Row(direction, "sms-ucs2", "han", FULL_UCS2, side, "same", each * FULL_UCS2, 400))
+        for service, room in PAGED.items():
+            for pages in (1, 2, MOST_PAGES):
+                text = "han" if service.endswith("ucs2") else "letters"
+                each = 9.0 * pages * room
+                rows.append(Row(direction, service, text, pages * room, "wikuay", "same", each, 2000))
+                rows.append(Row(direction, service, text, pages * room, "plain", "same", each / TIMES.get((direction, service), 1), None))
     clean, judged = broken_by_figures(rows, False)
     assert clean == [] and judged > 40, (clean, judged)
 
@@ -170,10 +193,18 @@ def self_test():
                 return is_ours(r) and (r.direction, r.service, r.text, r.length) == (direction, service, "letters", full)
             breaks(": instructions", whole, cost=MOST[direction] * full // 160 + 1)
             breaks("plain loop", whole, cost=9.0 * full + 1)
-    breaks("plain loop", lambda r: is_ours(r) and r.service in FULL and r.text == "extension" and r.length >= FROM, cost=9.0 * 182 + 1)
-    breaks("a refusal", lambda r: is_ours(r) and r.text in REFUSED, cost=9.0 * 182 + 1)
+    breaks("plain loop", lambda r: is_ours(r) and r.service in FULL and r.text == "extension" and r.length >= FROM, cost=9.0 * 1395 + 1)
+    breaks("a refusal", lambda r: is_ours(r) and r.text in REFUSED, cost=9.0 * 1395 + 1)
     breaks("loop that swaps", lambda r: is_ours(r) and r.service == "sms-ucs2", cost=8 * FULL_UCS2 + 1)
-    breaks("octets of stack", is_ours, stack=STACK_OCTETS)
+    for service, room in PAGED.items():
+        for pages in (1, 2, MOST_PAGES):
+            def whole_pages(r):
+                return is_ours(r) and (r.service, r.length) == (service, pages * room) and r.text in LINEAR
+            breaks("plain loop", whole_pages, cost=9.0 * pages * room + 1)
+            if pages > 1:
+                breaks("as many single pages", whole_pages, cost=9.0 * pages * room + 1)
+    breaks("octets of stack", lambda r: is_ours(r) and r.service not in PAGED, stack=STACK_OCTETS)
+    breaks("octets of stack", is_ours, stack=PAGED_STACK_OCTETS)
     breaks("something else", lambda r: r.side == "plain" and r.service != "sms-ucs2", answer="differs", cost=9.0)
     slow = [r._replace(cost=2 * r.cost if is_ours(r) and r.text not in REFUSED else r.cost) for r in rows]
     assert any("plain loop" in line for line in broken_by_figures(slow, True)[0])

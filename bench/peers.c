@@ -6,6 +6,7 @@
 #include <string.h>
 
 static const one_case *now;
+static const char *const one_page = "has no call for several pages";
 static uint8_t septets[512];
 static uint8_t octets[512];
 static size_t written;
@@ -51,6 +52,7 @@ static const char *osmo_load(void) {
 
 static const char *osmo_prepare(const one_case *given) {
   now = given;
+  if (given->service >= PAGES) return one_page;
   if (given->alphabet != 0) return "has no call for UCS2";
   memset(letters, 0, sizeof letters);
   if (given->writing)
@@ -95,7 +97,7 @@ static void osmo_answer(one_answer *got) {
   }
 }
 
-const side peer_libosmocore = { "libosmocore", osmo_load, osmo_prepare, osmo_run, osmo_answer };
+const side peer_libosmocore = { "libosmocore", osmo_load, osmo_prepare, osmo_run, NULL, osmo_answer };
 
 /* ---- gammu: text is two octets a unit, high octet first, closed by a zero unit. ---- */
 
@@ -116,6 +118,7 @@ static const char *gammu_load(void) {
 
 static const char *gammu_prepare(const one_case *given) {
   now = given;
+  if (given->service >= PAGES) return one_page;
   if (given->alphabet != 0) return "keeps text as these very octets, so that there is nothing to do";
   memset(pairs, 0, sizeof pairs);
   if (given->writing)
@@ -158,7 +161,7 @@ static void gammu_answer(one_answer *got) {
   }
 }
 
-const side peer_gammu = { "gammu", gammu_load, gammu_prepare, gammu_run, gammu_answer };
+const side peer_gammu = { "gammu", gammu_load, gammu_prepare, gammu_run, NULL, gammu_answer };
 
 /* ---- wireshark: reads only, into UTF-8 of its own storage. ---- */
 
@@ -176,6 +179,7 @@ static const char *shark_load(void) {
 
 static const char *shark_prepare(const one_case *given) {
   now = given;
+  if (given->service >= PAGES) return one_page;
   if (given->writing) return "only reads";
   if (given->alphabet != 0) return "has no call of its own for UCS2";
   return NULL;
@@ -211,4 +215,4 @@ static void shark_answer(one_answer *got) {
   got->written = used;
 }
 
-const side peer_wireshark = { "wireshark", shark_load, shark_prepare, shark_run, shark_answer };
+const side peer_wireshark = { "wireshark", shark_load, shark_prepare, shark_run, NULL, shark_answer };

@@ -4,6 +4,7 @@
 #include <string.h>
 
 enum { CR = 0x0D, ESCAPE = 0x1B };
+enum { BLOCK = 88, HEADER = 6, PAGE_SEPTETS = 93, PAGE_UNITS = 41, MOST_PAGES = 15 };
 enum { LISTED = 0x100, EXTENSION = 0x200 };
 #define M(code) (LISTED | (code))
 #define E(code) (LISTED | EXTENSION | (code))
@@ -313,5 +314,175 @@ wikuay_read_answer plain_read(uint32_t service, uint8_t coding, size_t count, co
   if (used > out_len) return read_refused(7);
   memcpy(out, units, used * sizeof units[0]);
   wikuay_read_answer a = { 0, 0, used, 0, reading };
+  return a;
+}
+
+/* ---- broadcasts of several pages ---- */
+
+/* What is known of a message before its first block is made: its pages, or why there are none. Of 7-bit text the septets of all pages are
+   there too, the last one filled up. */
+typedef struct {
+  uint32_t refusal;
+  uint8_t coding;
+  uint8_t ucs2;
+  size_t position;
+  size_t pages;
+  uint8_t septets[2 * MOST_PAGES * PAGE_SEPTETS + 1];
+} paged;
+
+static void page_text(paged *to, wikuay_reading reading, const uint16_t *text, size_t text_len) {
+  int coding = plain_write_coding(1, reading);
+  to->position = 0;
+  to->refusal = coding < 0 ? 8 : no_text(reading);
+  if (to->refusal != 0) return;
+  to->coding = (uint8_t)coding;
+  to->ucs2 = reading.alphabet == WIKUAY_UCS2;
+  size_t room = to->ucs2 ? PAGE_UNITS : PAGE_SEPTETS, limit = MOST_PAGES * room, used = to->ucs2 ? text_len : 0;
+  if (!to->ucs2) {
+    for (size_t i = 0; i < text_len; i++) {
+      unsigned entry = find(text[i]);
+      if (entry == 0) {
+        to->refusal = 6;
+        to->position = i;
+        return;
+      }
+      /* A unit takes one septet or two, so there is room for the first one that is too many. */
+      if (used > limit) continue;
+      if (entry & EXTENSION) to->septets[used++] = ESCAPE;
+      to->septets[used++] = entry & 0x7F;
+    }
+  }
+  if (used > limit) {
+    to->refusal = 5;
+    return;
+  }
+  to->pages = used == 0 ? 1 : (used + room - 1) / room;
+  if (!to->ucs2)
+    while (used < PAGE_SEPTETS * to->pages) to->septets[used++] = CR;
+}
+
+/* Makes the block of page k, counted from 0. */
+static void put_block(uint8_t *block, uint16_t sequence, uint16_t identifier, const paged *from, const uint16_t *text, size_t text_len,
+                      size_t k) {
+  block[0] = (uint8_t)(sequence >> 8);
+  block[1] = (uint8_t)sequence;
+  block[2] = (uint8_t)(identifier >> 8);
+  block[3] = (uint8_t)identifier;
+  block[4] = from->coding;
+  block[5] = (uint8_t)((k + 1) << 4 | from->pages);
+  uint8_t *out = block + HEADER;
+  if (from->ucs2) {
+    size_t units = text_len - PAGE_UNITS * k < PAGE_UNITS ? text_len - PAGE_UNITS * k : PAGE_UNITS;
+    plain_swap_out(text + PAGE_UNITS * k, units, out);
+    for (size_t i = units; i < PAGE_UNITS; i++) {
+      out[2 * i] = 0;
+      out[2 * i + 1] = CR;
+    }
+    return;
+  }
+  const uint8_t *septets = from->septets + PAGE_SEPTETS * k;
+  uint32_t bits = 0;
+  unsigned held = 0;
+  for (size_t i = 0; i < PAGE_SEPTETS; i++) {
+    bits |= (uint32_t)septets[i] << held;
+    held += 7;
+    if (held >= 8) {
+      *out++ = (uint8_t)bits;
+      bits >>= 8;
+      held -= 8;
+    }
+  }
+  *out = (uint8_t)bits;
+}
+
+wikuay_pages_answer plain_write_pages(uint16_t sequence, uint16_t identifier, wikuay_reading reading, const uint16_t *text,
+                                      size_t text_len, uint8_t *out, size_t out_len) {
+  paged from;
+  page_text(&from, reading, text, text_len);
+  if (from.refusal == 0 && out_len < BLOCK * from.pages) from.refusal = 7;
+  if (from.refusal != 0) {
+    wikuay_pages_answer a = { from.refusal, 0, from.position, 0 };
+    return a;
+  }
+  for (size_t k = 0; k < from.pages; k++) put_block(out + BLOCK * k, sequence, identifier, &from, text, text_len, k);
+  wikuay_pages_answer a = { 0, (uint32_t)from.pages, 0, BLOCK * from.pages };
+  return a;
+}
+
+wikuay_page_answer plain_build_page(uint16_t sequence, uint16_t identifier, wikuay_reading reading, const uint16_t *text,
+                                    size_t text_len, size_t number) {
+  paged from;
+  wikuay_page_answer a = { 0, 0, 0, { { 0 } } };
+  page_text(&from, reading, text, text_len);
+  if (from.refusal == 0 && (number == 0 || number > from.pages)) from.refusal = 10;
+  if (from.refusal != 0) {
+    a.refusal = from.refusal;
+    a.position = from.position;
+    return a;
+  }
+  a.pages = (uint32_t)from.pages;
+  put_block(a.block.octets, sequence, identifier, &from, text, text_len, number - 1);
+  return a;
+}
+
+static wikuay_join_answer join_refused(uint32_t refusal) {
+  wikuay_join_answer a = { refusal, 0, 0, 0, 0, 0, WIKUAY_PLAIN };
+  return a;
+}
+
+wikuay_join_answer plain_join_pages(const uint8_t *blocks, size_t blocks_len, uint16_t *out, size_t out_len) {
+  if (blocks_len % BLOCK != 0) return join_refused(4);
+  if (blocks_len == 0) return join_refused(10);
+  wikuay_reading reading = plain_read_coding(1, blocks[4]);
+  uint32_t refusal = no_text(reading);
+  if (refusal != 0) return join_refused(refusal);
+
+  /* Each page from 1 to the total is there once, and all blocks have the header of the first. */
+  const uint8_t *text_of[MOST_PAGES + 1] = { NULL };
+  size_t total = blocks[5] & 15;
+  for (const uint8_t *block = blocks; block < blocks + blocks_len; block += BLOCK) {
+    size_t number = block[5] >> 4;
+    if (memcmp(block, blocks, 5) != 0 || (block[5] & 15u) != total || number == 0 || number > total || text_of[number] != NULL)
+      return join_refused(10);
+    text_of[number] = block + HEADER;
+  }
+  if (blocks_len != BLOCK * total) return join_refused(10);
+
+  uint16_t units[MOST_PAGES * PAGE_SEPTETS];
+  size_t used = 0;
+  if (reading.alphabet == WIKUAY_UCS2) {
+    for (size_t k = 1; k <= total; k++, used += PAGE_UNITS) plain_swap_in(text_of[k], PAGE_UNITS, units + used);
+    while (used > 0 && units[used - 1] == CR) used--;
+  } else {
+    uint8_t septets[MOST_PAGES * PAGE_SEPTETS];
+    size_t septets_len = 0;
+    for (size_t k = 1; k <= total; k++) {
+      const uint8_t *octets = text_of[k];
+      uint32_t bits = 0;
+      unsigned held = 0;
+      for (size_t i = 0; i < PAGE_SEPTETS; i++) {
+        if (held < 7) {
+          bits |= (uint32_t)*octets++ << held;
+          held += 8;
+        }
+        septets[septets_len++] = bits & 0x7F;
+        bits >>= 7;
+        held -= 7;
+      }
+    }
+    while (septets_len > 0 && septets[septets_len - 1] == CR) septets_len--;
+    for (size_t i = 0; i < septets_len; i++) {
+      uint16_t unit = main_unit[septets[i]];
+      if (septets[i] == ESCAPE && i + 1 < septets_len) {
+        i++;
+        unit = extension_unit[septets[i]];
+        if (unit == 0) unit = main_unit[septets[i]];
+      }
+      units[used++] = unit;
+    }
+  }
+  if (used > out_len) return join_refused(7);
+  memcpy(out, units, used * sizeof units[0]);
+  wikuay_join_answer a = { 0, (uint32_t)total, 0, used, (uint16_t)(blocks[0] << 8 | blocks[1]), (uint16_t)(blocks[2] << 8 | blocks[3]), reading };
   return a;
 }

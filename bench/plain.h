@@ -9,6 +9,13 @@ wikuay_answer plain_write(uint32_t service, wikuay_reading reading, const uint16
 wikuay_read_answer plain_read(uint32_t service, uint8_t coding, size_t count, const uint8_t *octets, size_t octets_len,
                               uint16_t *out, size_t out_len);
 
+/* Broadcasts of several pages. */
+wikuay_pages_answer plain_write_pages(uint16_t sequence, uint16_t identifier, wikuay_reading reading, const uint16_t *text,
+                                      size_t text_len, uint8_t *out, size_t out_len);
+wikuay_page_answer plain_build_page(uint16_t sequence, uint16_t identifier, wikuay_reading reading, const uint16_t *text,
+                                    size_t text_len, size_t number);
+wikuay_join_answer plain_join_pages(const uint8_t *blocks, size_t blocks_len, uint16_t *out, size_t out_len);
+
 /* The data coding octet of a reading, or -1 where there is none; and what an octet says. */
 int plain_write_coding(uint32_t service, wikuay_reading reading);
 wikuay_reading plain_read_coding(uint32_t service, uint8_t coding);

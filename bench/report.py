@@ -8,7 +8,16 @@ import sys
 
 SIDES = ["wikuay", "plain", "swap", "copy", "libosmocore", "gammu", "wireshark"]
 HEADS = {"wikuay": "Wikuay", "plain": "plain C loop", "swap": "swap loop", "copy": "copy"}
-SERVICES = {"sms": "short message", "page": "broadcast page", "ussd": "USSD", "sms-ucs2": "short message, UCS2"}
+SERVICES = {
+    "sms": "short message",
+    "page": "broadcast page",
+    "ussd": "USSD",
+    "sms-ucs2": "short message, UCS2",
+    "pages": "all pages",
+    "pages-ucs2": "all pages, UCS2",
+    "built": "the last page",
+    "built-ucs2": "the last page, UCS2",
+}
 BEGIN, END = "<!-- figures: written by bench/run -->", "<!-- end of figures -->"
 
 

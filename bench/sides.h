@@ -5,31 +5,33 @@
 #include <stddef.h>
 #include <stdint.h>
 
-enum { SMS = 0, PAGE = 1, USSD = 2 };
-enum { ROOM_OCTETS = 160, ROOM_UNITS = 182 };
+/* PAGES are all pages of a broadcast message, and BUILT its last one alone. */
+enum { SMS = 0, PAGE = 1, USSD = 2, PAGES = 3, BUILT = 4 };
+enum { ROOM_OCTETS = 160, ROOM_UNITS = 182, PAGES_OCTETS = 1320, PAGES_UNITS = 1395, BLOCK = 88 };
 
 typedef struct {
   int writing;                 /* 1 text into octets, 0 octets into text */
-  uint32_t service;            /* SMS, PAGE or USSD */
+  uint32_t service;            /* SMS .. BUILT */
   uint8_t alphabet;            /* 0 7-bit, 2 UCS2 */
   const char *kind;            /* letters, extension, euro, refused, circumflex, han */
   size_t length;               /* septets of the text, or its units in UCS2 */
   size_t units;
-  uint16_t text[256];
-  uint8_t coding;              /* to read: what the library wrote for the text */
+  uint16_t text[PAGES_UNITS];
+  uint8_t coding;              /* to read: what the library wrote for the text, of pages in reverse order */
   uint32_t count;
   size_t octets_len;
-  uint8_t octets[256];
+  uint8_t octets[PAGES_OCTETS];
 } one_case;
 
 typedef struct {
   uint32_t refusal;
   size_t position;
-  uint32_t count;
+  uint32_t count;              /* of several pages how many they are */
   uint8_t coding;
+  uint32_t numbers;            /* of pages that are joined the sequence number and the message identifier */
   size_t written;
-  uint8_t octets[512];
-  uint16_t units[512];
+  uint8_t octets[PAGES_OCTETS];
+  uint16_t units[PAGES_UNITS];
 } one_answer;
 
 typedef struct {
@@ -38,8 +40,9 @@ typedef struct {
   const char *(*load)(void);
   /* Brings the case into the side's own form, outside the measurement. Answers 0, or why it cannot be given. */
   const char *(*prepare)(const one_case *given);
-  /* The measured call. */
+  /* The measured call, and that of several pages, which is apart so that neither pays for the choice. */
   call run;
+  call run_pages;
   /* What came of the call. A part that the side has no word for is left as it stands: it is the library's own. */
   void (*answer)(one_answer *got);
 } side;

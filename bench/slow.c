@@ -31,6 +31,27 @@ wikuay_read_answer wikuay_read_message(uint32_t service, uint8_t coding, size_t 
   return answer;
 }
 
+/* Of several pages it waits longer the more there are: its cost is not linear. */
+wikuay_pages_answer wikuay_write_pages(uint16_t sequence, uint16_t identifier, wikuay_reading reading, const uint16_t *text,
+                                       size_t text_len, uint8_t *out, size_t out_len) {
+  wikuay_pages_answer answer = plain_write_pages(sequence, identifier, reading, text, text_len, out, out_len);
+  wait(answer.refusal != 0 ? 4000 : 20 * answer.pages * answer.pages);
+  return answer;
+}
+
+wikuay_page_answer wikuay_build_page(uint16_t sequence, uint16_t identifier, wikuay_reading reading, const uint16_t *text,
+                                     size_t text_len, size_t number) {
+  wikuay_page_answer answer = plain_build_page(sequence, identifier, reading, text, text_len, number);
+  wait(answer.refusal != 0 ? 4000 : 20 * answer.pages * answer.pages);
+  return answer;
+}
+
+wikuay_join_answer wikuay_join_pages(const uint8_t *blocks, size_t blocks_len, uint16_t *out, size_t out_len) {
+  wikuay_join_answer answer = plain_join_pages(blocks, blocks_len, out, out_len);
+  wait(20 * answer.pages * answer.pages);
+  return answer;
+}
+
 static wikuay_answer nothing(void) {
   wikuay_answer answer;
   memset(&answer, 0, sizeof answer);
@@ -44,6 +65,18 @@ static wikuay_read_answer nothing_read(void) {
 }
 
 /* The other calls answer nothing: they are there to be linked. */
+wikuay_pages_answer wikuay_count_pages(wikuay_reading reading, const uint16_t *text, size_t text_len) {
+  wikuay_pages_answer answer;
+  (void)reading, (void)text, (void)text_len;
+  memset(&answer, 0, sizeof answer);
+  return answer;
+}
+wikuay_block_header wikuay_read_header(wikuay_block block) {
+  wikuay_block_header header;
+  (void)block;
+  memset(&header, 0, sizeof header);
+  return header;
+}
 wikuay_read_answer wikuay_read_coding(uint32_t service, uint8_t coding) { return (void)service, (void)coding, nothing_read(); }
 wikuay_answer wikuay_write_coding(uint32_t service, wikuay_reading reading) { return (void)service, (void)reading, nothing(); }
 wikuay_read_answer wikuay_holds_text(wikuay_reading reading) { return (void)reading, nothing_read(); }
