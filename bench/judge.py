@@ -77,6 +77,8 @@ def broken_by_figures(rows, timed):
             if not timed:
                 accepted = cost.get((r.direction, r.service, ACCEPTED, r.length, "wikuay"))
                 hold(f"{name}: a refusal against the accepted text", r.cost, accepted)
+        elif r.service in PAGED and timed:
+            continue
         elif (r.service in FULL or r.service in PAGED) and r.length >= (FROM_ACCEPTED if r.text == ACCEPTED else FROM):
             plain = cost.get(key + ("plain",))
             # The spread of a time is not a fault: a tenth is allowed there.
@@ -234,7 +236,7 @@ def main(words):
     if len(broken) > MOST_LINES:
         print(f"over the limit: {len(broken) - MOST_LINES} more")
     if timed:
-        print("not judged, since instructions cannot be counted here: instructions of a whole message, UCS2, refusals, stack")
+        print("not judged, since instructions cannot be counted here: instructions of a whole message, UCS2, several pages, refusals, stack")
     print(f"{judged + 3} limits judged, {len(broken)} broken")
     return 1 if broken else 0
 
