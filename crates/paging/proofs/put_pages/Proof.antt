@@ -33,7 +33,8 @@ nth-block-requires c κs =
     let at = c .before in
     let start = at .before .before .before .before in
     let a = start .args in
-    (omega (arith, start .pre .0 .0), start .pre .0 .2, page-within (pageRoom (a .ucs2)) (at .loop .k) (a .total) (length (cond (a .ucs2) (now (a .units)) (now (a .septets)))) (c .loop-test .taken) (start .pre .1))
+    let begun = page-within (pageRoom (a .ucs2)) (at .loop .k) (a .total) (length (cond (a .ucs2) (now (a .units)) (now (a .septets)))) (c .loop-test .taken) (start .pre .1) in
+    (omega (arith, start .pre .0 .0), start .pre .0 .2, omega (arith, begun))
 
 mul-put-block : tie.Need-mul-put-block Inv-loop μ-loop
 mul-put-block c = search needs
