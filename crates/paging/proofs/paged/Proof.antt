@@ -12,7 +12,7 @@ mul-if1 c = search needs
 
 -- src/lib.rt:55:9
 returns : tie.Need-returns
-returns c = sym (paged-over (c .before .args .room) (c .before .args .n) (c .if1 .taken))
+returns c = sym (paged-over (c .before .args .room) (c .before .args .n) (omega arith))
 
 -- src/lib.rt:58:9
 returns-2 : tie.Need-returns-2
