@@ -1,4 +1,4 @@
--- A reading's key tells its fields: each field's number is a digit of the key.
+-- A reading's key tells its fields, all but the letters: each field's number is a digit of the key.
 -- Assumes nothing.
 use mathlib.Core.Path.{_≡_, refl, ap, _∙_}
 use mathlib.Core.Bool.{Bool, true, false}
@@ -12,11 +12,14 @@ use Rattle.fields.specs.declared.Class.the-variants.{Unset}
 use Rattle.fields.specs.declared.Language.the-variants.{German}
 use Rattle.coding.specs.declared.Reading.{Reading}
 use Rattle.fields.specs.Numbers.{alphabetNo, classNo, languageNo, noticeNo, flagNo, alphabets, classes, languages, noticeAt}
+use Rattle.fields.specs.Letters.{noLetters}
+use Rattle.coding.specs.Readings.{lettered, withoutLetters}
 use Rattle.coding.specs.Inner.{keyOf, readingOf}
 use Rattle.fields.proofs.Numbered.{alphabet-named, class-named, language-named, flag-named, notice-below, notice-back}
 
-pub fields : (a b : Reading) → a .alphabet ≡ b .alphabet → a .compressed ≡ b .compressed → a .class ≡ b .class → a .language ≡ b .language → a .deletion ≡ b .deletion → a .notice ≡ b .notice → a .prefix ≡ b .prefix → a .reserved ≡ b .reserved → a ≡ b
-fields a b p₀ p₁ p₂ p₃ p₄ p₅ p₆ p₇ i = record { alphabet = p₀ i; compressed = p₁ i; class = p₂ i; language = p₃ i; deletion = p₄ i; notice = p₅ i; prefix = p₆ i; reserved = p₇ i }
+-- readings that agree in every field but the letters are the same without them
+pub fields : (a b : Reading) → a .alphabet ≡ b .alphabet → a .compressed ≡ b .compressed → a .class ≡ b .class → a .language ≡ b .language → a .deletion ≡ b .deletion → a .notice ≡ b .notice → a .prefix ≡ b .prefix → a .reserved ≡ b .reserved → withoutLetters a ≡ withoutLetters b
+fields a b p₀ p₁ p₂ p₃ p₄ p₅ p₆ p₇ i = lettered noLetters (p₀ i) (p₁ i) (p₂ i) (p₃ i) (p₄ i) (p₅ i) (p₆ i) (p₇ i)
 
 -- the digits of a key
 pub record Digits (k a c l n z d p r : ℕ) : Type 0 where
@@ -47,7 +50,7 @@ pub flag-back : (b : Bool) → eqb (flagNo b) 1 ≡ b
 flag-back true = refl
 flag-back false = refl
 
-pub key-reading : (r : Reading) → readingOf (keyOf r) ≡ r
+pub key-reading : (r : Reading) → readingOf (keyOf r) ≡ withoutLetters r
 unfolding readingOf
 key-reading r =
     let d = key-digits r in

@@ -1,3 +1,4 @@
+pub mod Letterless
 pub mod Keys
 pub mod Same
 pub mod Octets
@@ -5,4 +6,5 @@ pub mod Old
 pub mod Smallest
 pub mod Theorems
 pub mod Refuses
+pub mod TextOctet
 pub mod Outcomes

@@ -13,7 +13,9 @@ use Rattle.keys.specs.Keys.{alphabetDigit, classDigit, languageDigit, generalKe
 use Rattle.fields.specs.Numbers.{alphabets, classes, languages}
 use Rattle.coding.specs.Inner.{keyOf, readingOf}
 use Rattle.fields.proofs.Numbered.{alphabet-named, class-named, language-named}
+use Rattle.fields.specs.Letters.{noLetters}
 use Rattle.coding.proofs.Keys.{key-digits, key-reading}
+use Rattle.coding.proofs.Letterless.{letterless}
 
 abbrev keyed : (ℕ → ℕ) → (ℕ → Reading) → ℕ → Bool
 keyed key read o = eqb (key o) (keyOf (read o))
@@ -40,5 +42,5 @@ key-valid r k e = (
   subst (λ (n : ℕ). n < length languages) (sym (ap languageDigit e ∙ key-digits r .language)) (language-named (r .language) .below),
 )
 
-pub key-back : (r : Reading) (k : ℕ) → k ≡ keyOf r → readingOf k ≡ r
-key-back r k e = ap readingOf e ∙ key-reading r
+pub key-back : (r : Reading) (k : ℕ) → r .letters ≡ noLetters → k ≡ keyOf r → readingOf k ≡ r
+key-back r k n e = ap readingOf e ∙ key-reading r ∙ letterless r n

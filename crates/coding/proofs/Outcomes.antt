@@ -16,6 +16,14 @@ use Rattle.coding.proofs.Reading.holds.Kinds as holds-kinds
 use Rattle.coding.proofs.Reading.holds.Reads as holds-reads
 use Rattle.coding.proofs.read_octet.Kinds as read-octet-kinds
 use Rattle.coding.proofs.read_octet.Reads as read-octet-reads
+use Rattle.coding.proofs.Reading.with_letters.Kinds as with-letters-kinds
+use Rattle.coding.proofs.Reading.with_letters.Reads as with-letters-reads
+use Rattle.coding.proofs.Reading.text_octet.Kinds as text-octet-kinds
+use Rattle.coding.proofs.Reading.text_octet.Reads as text-octet-reads
+use Rattle.coding.proofs.Reading.is_ucs2.Kinds as is-ucs2-kinds
+use Rattle.coding.proofs.Reading.is_ucs2.Reads as is-ucs2-reads
+use Rattle.coding.proofs.Reading.lettered.Kinds as lettered-kinds
+use Rattle.coding.proofs.Reading.lettered.Reads as lettered-reads
 
 pub of-unique : OneAnswer of-kinds.ps of-kinds.r of-reads.Post
 of-unique κs a x y u v p q = p ∙ sym q
@@ -37,3 +45,15 @@ holds-unique κs a x y u v p q = p ∙ sym q
 
 pub read-octet-unique : OneAnswer read-octet-kinds.ps read-octet-kinds.r read-octet-reads.Post
 read-octet-unique κs a x y u v p q = p ∙ sym q
+
+pub with-letters-unique : OneAnswer with-letters-kinds.ps with-letters-kinds.r with-letters-reads.Post
+with-letters-unique κs a x y u v p q = p ∙ sym q
+
+pub text-octet-unique : OneAnswer text-octet-kinds.ps text-octet-kinds.r text-octet-reads.Post
+text-octet-unique κs a x y u v p q = p ∙ sym q
+
+pub lettered-unique : OneAnswer lettered-kinds.ps lettered-kinds.r lettered-reads.Post
+lettered-unique κs a x y u v p q = p ∙ sym q
+
+pub is-ucs2-unique : OneAnswer is-ucs2-kinds.ps is-ucs2-kinds.r is-ucs2-reads.Post
+is-ucs2-unique κs a x y u v p q = p ∙ sym q

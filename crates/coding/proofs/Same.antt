@@ -1,4 +1,4 @@
--- Readings that are alike in every field that an octet tells are the same reading, and so are readings with the same key.
+-- Readings that are alike in every field that an octet tells are the same reading but for their letters, and so are readings with the same key.
 -- Assumes nothing.
 use mathlib.Core.Path.{_≡_, refl, ap, _∙_, sym, subst}
 use mathlib.Core.Bool.{Bool, true, false, cond}
@@ -7,6 +7,7 @@ use lib.Dec.{eqb, T, eqb→eq, eqb-refl}
 use borrow.Author.Tests.{eq-eqb}
 use Rattle.coding.specs.declared.Reading.{Reading}
 use Rattle.fields.specs.Numbers.{alphabetNo, classNo, languageNo, noticeNo, flagNo}
+use Rattle.coding.specs.Readings.{withoutLetters}
 use Rattle.coding.specs.OctetWritten.{sameCoding}
 use Rattle.coding.specs.Inner.{keyOf, readingOf}
 use Rattle.coding.proofs.Keys.{fields, key-reading}
@@ -31,7 +32,7 @@ alike true false f g = absurd (f tt)
 alike false true f g = absurd (g tt)
 alike false false f g = refl
 
-pub same-sound : (a b : Reading) → T (sameCoding a b) → a ≡ b
+pub same-sound : (a b : Reading) → T (sameCoding a b) → withoutLetters a ≡ withoutLetters b
 same-sound a b h₀ =
     let h₁ = rest (eqb (alphabetNo (a .alphabet)) (alphabetNo (b .alphabet))) _ h₀ in
     let h₂ = rest (eqb (flagNo (a .compressed)) (flagNo (b .compressed))) _ h₁ in
@@ -53,13 +54,14 @@ same-sound a b h₀ =
 same-itself : (a : Reading) → T (sameCoding a a)
 same-itself a = simp eqb-same tt
 
-pub same-complete : (a b : Reading) → a ≡ b → T (sameCoding a b)
+pub same-complete : (a b : Reading) → withoutLetters a ≡ withoutLetters b → T (sameCoding a b)
 same-complete a b e = subst (λ (x : Reading). T (sameCoding a x)) e (same-itself a)
 
-key-sound : (a b : Reading) → keyOf a ≡ keyOf b → a ≡ b
+key-sound : (a b : Reading) → keyOf a ≡ keyOf b → withoutLetters a ≡ withoutLetters b
 key-sound a b e = sym (key-reading a) ∙ ap readingOf e ∙ key-reading b
 
 pub same-key : (a b : Reading) → eqb (keyOf a) (keyOf b) ≡ sameCoding a b
+unfolding keyOf
 same-key a b =
     alike (eqb (keyOf a) (keyOf b)) (sameCoding a b)
     (λ (h : T (eqb (keyOf a) (keyOf b))). same-complete a b (key-sound a b (eqb→eq _ _ h)))

@@ -1,8 +1,8 @@
 -- What holds of reading and writing the data coding octet, of the definitions that the contracts cite.
 -- Assumes nothing.
---   write-read       reading what was written gives the reading back
+--   write-read       reading what was written gives the reading back, without its letters
 --   write-least      no smaller octet reads so
---   write-complete   a reading that is not reserved and that an octet has is written: so 8 is given for no other cause
+--   write-complete   a reading that is not reserved and that an octet has, but for its letters, is written: so 8 is given for no other cause
 --   read-rewritten   an octet that is not reserved is written no larger than it was, and reads the same
 --   octet-counts     reserved octets and writable readings of each service are those of the list counts
 use mathlib.Core.Path.{_≡_, refl, ap, _∙_, sym, subst}
@@ -28,6 +28,8 @@ use Rattle.lists.specs.Bits.{bitOf, gather, bitsOf}
 use Rattle.lists.proofs.Tests.{both}
 use Rattle.coding.specs.OctetWritten.{sameCoding, smallest, writeRules, octetWrites}
 use Rattle.coding.specs.Counts.{counted, counts, right}
+use Rattle.coding.specs.Readings.{withoutLetters}
+use Rattle.coding.proofs.Letterless.{letterless, read-letterless, octet-letterless}
 use Rattle.coding.proofs.Same.{same-sound, same-complete}
 use Rattle.coding.proofs.Smallest.{write-found}
 
@@ -69,13 +71,14 @@ settled s r o e =
     let same : smallest s r ≡ o = t .3 in
     record { new = t .0; plain = t .1; first = same; within = omega arith }
 
-pub write-read : (s : Service) (r : Reading) (o : ℕ) → octetWrites s r ≡ Done o → octetReads s o ≡ read.Done r
+pub write-read : (s : Service) (r : Reading) (o : ℕ) → octetWrites s r ≡ Done o → octetReads s o ≡ read.Done (withoutLetters r)
 unfolding smallest
 write-read s r o e =
     let t : Settled s r o = settled s r o e in
     reads-all s o (t .new)
     ∙ ap read.Done
-    (same-sound (readUnder s o) r
+    (sym (letterless (readUnder s o) (read-letterless s o))
+    ∙ same-sound (readUnder s o) r
     (subst (λ (k : ℕ). T (sameCoding (readUnder s k) r)) (t .first)
     (first-holds (λ (k : ℕ). sameCoding (readUnder s k) r) (subst (λ (k : ℕ). k < 256) (sym (t .first)) (t .within)))))
 
@@ -83,25 +86,27 @@ write-read s r o e =
 same-read : (x r : Reading) → read.Done x ≡ read.Done r → x ≡ r
 same-read x r e = cc
 
-pub write-least : (s : Service) (r : Reading) (o k : ℕ) → octetWrites s r ≡ Done o → k < 256 → octetReads s k ≡ read.Done r → o ≤ k
+pub write-least : (s : Service) (r : Reading) (o k : ℕ) → octetWrites s r ≡ Done o → k < 256 → octetReads s k ≡ read.Done (withoutLetters r) → o ≤ k
 unfolding smallest
 write-least s r o k e l h =
     let t : Settled s r o = settled s r o e in
-    let here : readUnder s k ≡ r = same-read _ _ (sym (reads-all s k (t .new)) ∙ h) in
-    subst (λ (n : ℕ). n ≤ k) (t .first) (first-least (λ (n : ℕ). sameCoding (readUnder s n) r) k l (same-complete _ _ here))
+    let here : readUnder s k ≡ withoutLetters r = same-read _ _ (sym (reads-all s k (t .new)) ∙ h) in
+    subst (λ (n : ℕ). n ≤ k) (t .first) (first-least (λ (n : ℕ). sameCoding (readUnder s n) r) k l (same-complete (readUnder s k) r (ap withoutLetters here)))
 
-pub write-complete : (s : Service) (r : Reading) (o : ℕ) → isOldPage s ≡ false → r .reserved ≡ false → o < 256 → octetReads s o ≡ read.Done r → (k : ℕ) × (octetWrites s r ≡ Done k)
+pub write-complete : (s : Service) (r : Reading) (o : ℕ) → isOldPage s ≡ false → r .reserved ≡ false → o < 256 → octetReads s o ≡ read.Done (withoutLetters r) → (k : ℕ) × (octetWrites s r ≡ Done k)
 unfolding smallest
 write-complete s r o new plain l h =
-    let here : readUnder s o ≡ r = same-read _ _ (sym (reads-all s o new) ∙ h) in
-    let low : smallest s r ≤ o = first-least (λ (n : ℕ). sameCoding (readUnder s n) r) o l (same-complete _ _ here) in
+    let here : readUnder s o ≡ withoutLetters r = same-read _ _ (sym (reads-all s o new) ∙ h) in
+    let low : smallest s r ≤ o = first-least (λ (n : ℕ). sameCoding (readUnder s n) r) o l (same-complete (readUnder s o) r (ap withoutLetters here)) in
     (smallest s r, write-found s r (smallest s r) new plain refl (omega arith))
 
 pub read-rewritten : (s : Service) (o : ℕ) (x : Reading) → isOldPage s ≡ false → o < 256 → octetReads s o ≡ read.Done x → x .reserved ≡ false
     → (k : ℕ) × (octetWrites s x ≡ Done k) × (k ≤ o) × (octetReads s k ≡ read.Done x)
 read-rewritten s o x new l h plain =
-    let w = write-complete s x o new plain l h in
-    (w .0, w .1, write-least s x (w .0) o (w .1) l h, write-read s x (w .0) (w .1))
+    let bare : withoutLetters x ≡ x = letterless x (octet-letterless s o x h) in
+    let heard : octetReads s o ≡ read.Done (withoutLetters x) = h ∙ ap read.Done (sym bare) in
+    let w = write-complete s x o new plain l heard in
+    (w .0, w .1, write-least s x (w .0) o (w .1) l heard, write-read s x (w .0) (w .1) ∙ ap read.Done bare)
 
 -- the counts are right
 pub octet-counts : T (right counts)

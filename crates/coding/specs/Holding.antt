@@ -1,4 +1,5 @@
--- Document 01, refusals 1 to 3: whether a reading holds text that the base reads and writes.
+-- Document 01, refusals 1 to 3: whether a reading holds text under every service. Letters count for nothing here: one broadcast page with the
+-- prefix mark holds text all the same (document 02, W2), and the whole reader and writer say so themselves.
 -- Own rule: none. Cited by Reading::holds. Assumes nothing.
 --   textRules s r == why a reading holds no text under service s: 1 compressed, 2 8-bit or WAP, 3 prefix mark; alike under every service
 --   holdsText s r == the alphabet of its text, or the refusal

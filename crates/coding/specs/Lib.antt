@@ -1,6 +1,7 @@
 pub mod Readings
 pub mod OctetRead
 pub mod OctetWritten
+pub mod LanguageLetters
 pub mod Holding
 pub mod Counts
 pub mod Refusing

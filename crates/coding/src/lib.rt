@@ -2,14 +2,16 @@
 ghost use mathlib.Core.Path.{_≡_};
 ghost use Prim.Native.Nat.{_<_};
 ghost use lib.ListN.{length};
-ghost use Rattle.coding.specs.Readings.{readingFrom, unmentioned, plainIn, withAlphabet};
+ghost use Rattle.coding.specs.Readings.{readingFrom, unmentioned, plainIn, withAlphabet, withLetters};
+ghost use Rattle.coding.specs.LanguageLetters.{isLettered, codingWrites};
 ghost use Rattle.coding.specs.OctetRead.{octetReads};
 ghost use Rattle.fields.specs.Numbers.{alphabets, classes, languages};
 ghost use Rattle.coding.specs.OctetWritten.{octetWrites};
 ghost use Rattle.coding.specs.declared.OctetWritten.the-variants.{Done};
-ghost use mathlib.Core.Bool.{cond};
+ghost use mathlib.Core.Bool.{cond, not, _&&_};
+ghost use Rattle.fields.specs.Letters.{anyLetter};
 ghost use Rattle.keys.specs.Keys.{alphabetDigit, classDigit, languageDigit};
-ghost use Rattle.coding.specs.Holding.{holdsText};
+ghost use Rattle.coding.specs.Holding.{isUcs2, holdsText};
 ghost use Rattle.coding.specs.Inner.{keyOf, readingOf, writtenAs};
 use fields::ALPHABETS;
 use fields::Alphabet;
@@ -17,6 +19,7 @@ use fields::CLASSES;
 use fields::Class;
 use fields::LANGUAGES;
 use fields::Language;
+use fields::Letters;
 use fields::Notice;
 use fields::flag;
 use fields::notice_at;
@@ -30,7 +33,7 @@ use keys::RESERVED;
 use words::Refusal;
 use words::Service;
 
-// What a data coding octet says.
+// What a data coding octet says, and the letters of the language in front of a text.
 pub struct Reading {
     pub alphabet: Alphabet,
     pub compressed: bool,
@@ -40,6 +43,7 @@ pub struct Reading {
     pub notice: Notice,
     pub prefix: bool,
     pub reserved: bool,
+    pub letters: Letters,
 }
 
 // What reading an octet answers.
@@ -62,7 +66,7 @@ pub enum Held {
 }
 
 impl Reading {
-    // The reading with these fields.
+    // The reading with these fields, and no letters.
     pub fn of(
         alphabet: Alphabet,
         compressed: bool,
@@ -84,6 +88,10 @@ impl Reading {
             notice,
             prefix,
             reserved,
+            letters: Letters {
+                first: 0,
+                second: 0,
+            },
         }
     }
 
@@ -110,16 +118,27 @@ impl Reading {
         let class = self.class;
         let language = self.language;
         let notice = self.notice;
-        Self::of(
-            alphabet,
-            self.compressed,
-            class,
-            language,
-            self.deletion,
-            notice,
-            self.prefix,
-            self.reserved,
-        )
+        let letters = self.letters;
+        Self {
+            alphabet: alphabet,
+            compressed: self.compressed,
+            class: class,
+            language: language,
+            deletion: self.deletion,
+            notice: notice,
+            prefix: self.prefix,
+            reserved: self.reserved,
+            letters: letters,
+        }
+    }
+
+    // A copy with other letters.
+    pub fn with_letters(self, letters: Letters) -> Self
+        ensures answer { λ r. ⌜ r ≡ withLetters letters self ⌝ }
+    {
+        let mut copy = self;
+        copy.letters = letters;
+        copy
     }
 }
 
@@ -237,8 +256,43 @@ impl Reading {
         }
     }
 
+    // The coding octet of a text with this reading: as write, but that a letter without the prefix mark is refused 8 too.
+    pub fn text_octet(self, service: Service) -> OctetWritten
+        ensures answer { λ r. ⌜ r ≡ codingWrites service self ⌝ }
+    {
+        if stray(self.prefix, self.letters) {
+            return OctetWritten::Refused(Refusal::Unwritable);
+        }
+        self.write(service)
+    }
+
+    // Whether its alphabet is UCS2.
+    pub fn is_ucs2(self) -> bool
+        ensures answer { λ r. ⌜ r ≡ isUcs2 (self .alphabet) ⌝ }
+    {
+        let alphabet = self.alphabet;
+        match alphabet {
+            Alphabet::SevenBit => false,
+            Alphabet::EightBit => false,
+            Alphabet::Ucs2 => true,
+            Alphabet::Wap => false,
+        }
+    }
+
+    // Whether one message begins with the letters of its language: a broadcast page with the prefix mark.
+    pub fn lettered(self, service: Service) -> bool
+        ensures answer { λ r. ⌜ r ≡ isLettered service self ⌝ }
+    {
+        match service {
+            Service::ShortMessage => false,
+            Service::Broadcast => self.prefix,
+            Service::Ussd => false,
+            Service::OldPage => false,
+        }
+    }
+
     // Whether it holds text under the service, and if not, why: 1 compressed, 2 8-bit or WAP, 3 the prefix mark. Every service judges
-    // alike.
+    // alike; one broadcast page is judged by lettered first.
     pub fn holds(self, service: Service) -> Held
         ensures answer { λ r. ⌜ r ≡ holdsText service self ⌝ }
     {
@@ -265,4 +319,11 @@ impl Reading {
             Alphabet::Wap => Held::Refused(Refusal::NoText),
         }
     }
+}
+
+// Whether there is a letter without the prefix mark.
+fn stray(prefix: bool, letters: Letters) -> bool
+    ensures { λ r. ⌜ r ≡ (not prefix && anyLetter letters) ⌝ }
+{
+    !prefix && letters.given()
 }

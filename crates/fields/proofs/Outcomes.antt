@@ -16,6 +16,10 @@ use Rattle.fields.proofs.flag.Kinds as flag-kinds
 use Rattle.fields.proofs.flag.Reads as flag-reads
 use Rattle.fields.proofs.notice_at.Kinds as notice-at-kinds
 use Rattle.fields.proofs.notice_at.Reads as notice-at-reads
+use Rattle.fields.proofs.Letters.named.Kinds as letters-named-kinds
+use Rattle.fields.proofs.Letters.named.Reads as letters-named-reads
+use Rattle.fields.proofs.Letters.given.Kinds as letters-given-kinds
+use Rattle.fields.proofs.Letters.given.Reads as letters-given-reads
 
 pub alphabet-number-unique : OneAnswer alphabet-number-kinds.ps alphabet-number-kinds.r alphabet-number-reads.Post
 alphabet-number-unique κs a x y u v p q = p ∙ sym q
@@ -37,3 +41,9 @@ flag-unique κs a x y u v p q = p ∙ sym q
 
 pub notice-at-unique : OneAnswer notice-at-kinds.ps notice-at-kinds.r notice-at-reads.Post
 notice-at-unique κs a x y u v p q = p ∙ sym q
+
+pub letters-named-unique : OneAnswer letters-named-kinds.ps letters-named-kinds.r letters-named-reads.Post
+letters-named-unique κs a x y u v p q = p ∙ sym q
+
+pub letters-given-unique : OneAnswer letters-given-kinds.ps letters-given-kinds.r letters-given-reads.Post
+letters-given-unique κs a x y u v p q = p ∙ sym q

@@ -1,5 +1,6 @@
 // The values of the fields of a reading, with their numbers.
 ghost use mathlib.Core.Path.{_≡_};
+ghost use Rattle.fields.specs.Letters.{isLetter, areLetters, anyLetter};
 ghost use Rattle.fields.specs.Numbers.{alphabetNo, classNo, languageNo, kindNo, noticeNo, flagNo, noticeAt};
 
 pub enum Alphabet {
@@ -52,6 +53,12 @@ pub enum Notice {
     Nothing,
     Discard { active: bool, kind: Kind },
     Store { active: bool, kind: Kind },
+}
+
+// The two letters that name the language of a text, in front of it. A letter is its octet, and 0 where it is absent.
+pub struct Letters {
+    pub first: u8,
+    pub second: u8,
 }
 
 impl Alphabet {
@@ -212,4 +219,27 @@ pub fn notice_at(n: u32) -> Notice
             kind: kind,
         }
     }
+}
+
+impl Letters {
+    // Whether both are a to z.
+    pub fn named(self) -> bool
+        ensures answer { λ r. ⌜ r ≡ areLetters self ⌝ }
+    {
+        is_letter(self.first) && is_letter(self.second)
+    }
+
+    // Whether one of them is there, be it a letter or not.
+    pub fn given(self) -> bool
+        ensures answer { λ r. ⌜ r ≡ anyLetter self ⌝ }
+    {
+        self.first != 0 || self.second != 0
+    }
+}
+
+// a to z, whose septet and whose unit are the same number.
+fn is_letter(octet: u8) -> bool
+    ensures { λ r. ⌜ r ≡ isLetter octet ⌝ }
+{
+    0x61 <= octet && octet <= 0x7a
 }
