@@ -4,7 +4,7 @@ ghost use Prim.Native.Nat.{_≤_};
 ghost use lib.ListN.{length, take};
 ghost use Rattle.stream.specs.Ucs2.{unitOctets, unitPage};
 ghost use Rattle.stream.specs.UnitCalls.{toOctetsAnswers, toOctetsLeaves};
-ghost use Rattle.stream.specs.Inner.{givenAnswers, givenLeaves};
+ghost use Rattle.stream.specs.Storing.{givenAnswers, givenLeaves};
 use words::Filled;
 use words::Refusal;
 use words::Service;

@@ -4,8 +4,6 @@ ghost use mathlib.Core.Bool.{true, false};
 ghost use Prim.Native.Nat.{_*_, _≤_};
 ghost use lib.ListN.{length};
 ghost use Rattle.lists.specs.Lists.{laid};
-ghost use Rattle.lists.specs.Closing.{withoutClosing};
-ghost use Rattle.stream.specs.Inner.{givenAnswers, givenLeaves};
 ghost use Rattle.pages.specs.Joined.{headerAt, totalAt, wrongPages, joinedFrom, joinAnswers, joinLeaves};
 ghost use Rattle.pages.specs.Inner.{heldJoins, heldJoinLeaves, textJoins, textJoinLeaves, joinedAs, Places};
 use coding::Held;
@@ -127,8 +125,8 @@ fn join_units(places: [usize; 16], total: usize, blocks: &[u8], out: &mut [u16])
     let mut units = [0u16; 615];
     take_pages(places, total, blocks, &mut units);
     let all = 41 * total;
-    let n = kept_units(&units[..all]);
-    store_units(&units[..n], out)
+    let n = to_units::kept(&units[..all]);
+    to_units::store(&units[..n], out)
 }
 
 // Lays the units of all pages over the front of out, in the order of the pages.
@@ -143,35 +141,4 @@ fn take_pages(places: [usize; 16], total: usize, blocks: &[u8], out: &mut [u16])
         let block = blocks::block_at(blocks, places[k] - 1);
         to_units::lay_units(&block[6..], &mut out[at..]);
     }
-}
-
-// How many units are left without the CRs that close them.
-fn kept_units(units: &[u16]) -> usize
-    ensures { λ r. ⌜ r ≡ length (withoutClosing 13 (now (units .entry))) ⌝ }
-{
-    let mut n = units.len();
-    while 0 < n {
-        if units[n - 1] != 13 {
-            return n;
-        }
-        n -= 1;
-    }
-    n
-}
-
-// Stores units: 7.
-fn store_units(units: &[u16], out: &mut [u16]) -> Filled
-    ensures { λ r. ⌜ r ≡ givenAnswers (now (units .entry)) (length (now (out .entry))) ⌝ }
-    ensures { λ r. ⌜ now (out .exit) ≡ givenLeaves (now (units .entry)) (now (out .entry)) ⌝ }
-{
-    let n = units.len();
-    if out.len() < n {
-        return Filled::Refused(Refusal::NoRoom);
-    }
-    let mut i: usize = 0;
-    while i < n {
-        out[i] = units[i];
-        i += 1;
-    }
-    Filled::Done(n)
 }

@@ -10,3 +10,4 @@ pub mod Theorems
 pub mod Encodings
 pub mod Gathering
 pub mod Examples
+pub mod Texts

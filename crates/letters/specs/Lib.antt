@@ -2,3 +2,4 @@ pub mod Tables
 pub mod Writing
 pub mod Reading
 pub mod Inner
+pub mod Sized

@@ -27,7 +27,8 @@ use Rattle.stream.specs.declared.Packed.the-variants as answers
 use Rattle.stream.specs.Stream.{octetsFor, packed}
 use Rattle.stream.specs.SeptetCalls.{octetsOf, travels, countOf, packRules, packAnswers, packLeaves, septetsFit, septetsOf, unpackRules, unpackAnswers, unpackLeaves}
 use Rattle.stream.specs.UnitCalls.{ucs2OctetsOf, toOctetsRules, toOctetsAnswers, toOctetsLeaves, unitsFit, unitsOf, toUnitsRules, toUnitsAnswers, toUnitsLeaves}
-use Rattle.stream.specs.Inner.{countedAs, givenAnswers, givenLeaves}
+use Rattle.stream.specs.Inner.{countedAs}
+use Rattle.stream.specs.Storing.{givenAnswers, givenLeaves}
 use Rattle.stream.proofs.Stream.{unpacked-length}
 use Rattle.stream.specs.ArrayCalls.{lowBits, arrayRules, arrayAnswers, arrayLeaves, pageRules, pageAnswers, pageLeaves, allSeptets, allRules, allAnswers, allLeaves, heldCount}
 use Rattle.stream.proofs.Given.{Gives}

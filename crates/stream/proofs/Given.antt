@@ -10,7 +10,7 @@ use Rattle.words.specs.declared.Filled.the-variants.{Done, Refused}
 use Rattle.words.specs.declared.Refusal.the-variants.{NoRoom}
 use Rattle.lists.specs.Lists.{laid}
 use Rattle.words.specs.Judging.{verdict}
-use Rattle.stream.specs.Inner.{givenAnswers, givenLeaves}
+use Rattle.stream.specs.Storing.{givenAnswers, givenLeaves}
 
 -- what a function that stores xs into out owes: its answer, and what it leaves
 abbrev pub Gives : List ℕ → List ℕ → Filled → List ℕ → Type 0

@@ -9,4 +9,5 @@ pub mod Answers
 pub mod SeptetCalls
 pub mod ArrayCalls
 pub mod UnitCalls
+pub mod Storing
 pub mod Inner

@@ -1,4 +1,4 @@
-// Octets into UCS2 units under each service: high octet first, and the page of 41 units without its closing CRs.
+// Octets into UCS2 units under each service: high octet first, and the page of 41 units without its closing CRs. Units left without those, and stored.
 ghost use mathlib.Core.Path.{_≡_};
 ghost use Prim.Native.Nat.{_+_, _*_, _≤_, _<_};
 ghost use mathlib.Core.List.{_++_};
@@ -7,8 +7,8 @@ ghost use Rattle.lists.specs.Lists.{laid};
 ghost use Rattle.lists.specs.Closing.{withoutClosing};
 ghost use Rattle.stream.specs.Ucs2.{octetUnits};
 ghost use Rattle.stream.specs.UnitCalls.{unitsFit, toUnitsAnswers, toUnitsLeaves};
-ghost use Rattle.stream.specs.Inner.{givenAnswers, givenLeaves};
-ghost use Rattle.to_units.specs.Laying.{laidCount, laidUnits};
+ghost use Rattle.stream.specs.Storing.{givenAnswers, givenLeaves};
+ghost use Rattle.to_units.specs.Laying.{laidCount, laidUnits, keptUnits};
 use words::Filled;
 use words::Refusal;
 use words::Service;
@@ -44,6 +44,38 @@ pub fn lay_units(octets: &[u8], out: &mut [u16]) -> usize
         i += 1;
     }
     n
+}
+
+// How many units are left without the 000D that close them. It refuses nothing.
+pub fn kept(units: &[u16]) -> usize
+    ensures answer { λ r. ⌜ r ≡ keptUnits (now (units .entry)) ⌝ }
+{
+    let mut n = units.len();
+    while 0 < n {
+        if units[n - 1] != 13 {
+            return n;
+        }
+        n -= 1;
+    }
+    n
+}
+
+// Stores units: how many there are.
+// Refuses a short buffer (7). Stores the units at the front of out; a refusal stores nothing.
+pub fn store(units: &[u16], out: &mut [u16]) -> Filled
+    ensures answer { λ r. ⌜ r ≡ givenAnswers (now (units .entry)) (length (now (out .entry))) ⌝ }
+    ensures buffer { λ r. ⌜ now (out .exit) ≡ givenLeaves (now (units .entry)) (now (out .entry)) ⌝ }
+{
+    let n = units.len();
+    if out.len() < n {
+        return Filled::Refused(Refusal::NoRoom);
+    }
+    let mut i: usize = 0;
+    while i < n {
+        out[i] = units[i];
+        i += 1;
+    }
+    Filled::Done(n)
 }
 
 // Whether so many octets fit the service and the count. An odd number fits none: a page has 82.

@@ -11,7 +11,7 @@ use Rattle.lists.specs.Lists.{laid}
 use Rattle.lists.proofs.Laid.{laid-full}
 use Rattle.words.specs.Judging.{verdict}
 use Rattle.stream.specs.Ucs2.{unitOctets, unitPage}
-use Rattle.stream.specs.Inner.{givenLeaves}
+use Rattle.stream.specs.Storing.{givenLeaves}
 use Rattle.stream.proofs.Pages.{unit-page-length}
 use Rattle.stream.proofs.UnitOctets.{unit-octets-length}
 use borrow.Author.Needs.{needs}

@@ -5,7 +5,7 @@ use mathlib.Core.List.{List}
 use native.Mathlib.Omega.{arith}
 use lib.ListN.{length}
 use Rattle.stream.specs.Ucs2.{unitOctets}
-use Rattle.stream.specs.Inner.{givenAnswers, givenLeaves}
+use Rattle.stream.specs.Storing.{givenAnswers, givenLeaves}
 use Rattle.stream.proofs.Pages.{unit-page-length}
 use borrow.Author.Needs.{needs}
 use Rattle.from_units.proofs.put_page.Statement.{statement}

@@ -37,28 +37,28 @@ room c =
 array-share-prefix-units : tie.Need-array-share-prefix-units
 array-share-prefix-units c = room (c .before)
 
-slice-aggregate-kept-units : tie.Need-slice-aggregate-kept-units
-slice-aggregate-kept-units c = sym (length-take-le _ _ (room (c .before .before)))
+slice-aggregate-kept : tie.Need-slice-aggregate-kept
+slice-aggregate-kept c = sym (length-take-le _ _ (room (c .before .before)))
 
-kept-units-requires : tie.Need-kept-units-requires
-kept-units-requires c κs = search needs
+kept-requires : tie.Need-kept-requires
+kept-requires c κs = search needs
 
 -- what is left stands in the array
-kept : (c : tie.After-kept-units) → c .kept-units .result ≤ length (array (c .before .before .before))
-kept c =
+within : (c : tie.After-kept) → c .kept .result ≤ length (array (c .before .before .before))
+within c =
     let laid = c .before .before .before in
     let start = laid .before .before .before .before in
     content-room true (start .args .blocks .now) (replicate 615 0) (array laid) (start .args .total) (start .pre .0) (start .pre .1) (omega arith) (laid .take-pages .ensures)
-    (c .kept-units .result) (c .kept-units .ensures)
+    (c .kept .result) (c .kept .ensures)
 
 array-share-prefix-units-2 : tie.Need-array-share-prefix-units-2
-array-share-prefix-units-2 c = kept c
+array-share-prefix-units-2 c = within c
 
-slice-aggregate-store-units : tie.Need-slice-aggregate-store-units
-slice-aggregate-store-units c = sym (length-take-le _ _ (kept (c .before)))
+slice-aggregate-store : tie.Need-slice-aggregate-store
+slice-aggregate-store c = sym (length-take-le _ _ (within (c .before)))
 
-store-units-requires : tie.Need-store-units-requires
-store-units-requires c κs = search needs
+store-requires : tie.Need-store-requires
+store-requires c κs = search needs
 
 same-length : tie.Need-same-length
 same-length c = search needs
@@ -72,9 +72,9 @@ returns c =
     let o : List ℕ = start .args .blocks .now in
     let run =
     content-front true o (replicate 615 0) (array laid) (start .args .total) (start .pre .0) (start .pre .1) (omega arith) (laid .take-pages .ensures)
-    (counted .kept-units .result) (counted .kept-units .ensures) in
+    (counted .kept .result) (counted .kept .ensures) in
     let s = units-join o (start .args .out .now) _ (start .pre .0) run in
-    (done .store-units .ensures .0 ∙ s .0, done .store-units .ensures .1 ∙ s .1)
+    (done .store .ensures .0 ∙ s .0, done .store .ensures .1 ∙ s .1)
 
 pub join-units-spec : {M : Type 1} → statement M
 join-units-spec =
@@ -84,10 +84,10 @@ join-units-spec =
     take-pages-requires
     mul-all
     array-share-prefix-units
-    slice-aggregate-kept-units
-    kept-units-requires
+    slice-aggregate-kept
+    kept-requires
     array-share-prefix-units-2
-    slice-aggregate-store-units
-    store-units-requires
+    slice-aggregate-store
+    store-requires
     same-length
     returns)

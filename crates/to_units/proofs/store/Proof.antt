@@ -7,8 +7,8 @@ use lib.ListN.{length, drop, drop-of-length-le}
 use Rattle.lists.proofs.Laid.{Laying, lay-none, lay-rest, lay-one, lay-end}
 use Rattle.stream.proofs.Given.{given-short, given-done}
 use borrow.Author.Needs.{needs}
-use Rattle.joining.proofs.store_units.Statement.{statement}
-use Rattle.joining.proofs.store_units.Tie as tie
+use Rattle.to_units.proofs.store.Statement.{statement}
+use Rattle.to_units.proofs.store.Tie as tie
 
 abbrev Inv-loop : tie.InvT-loop
 Inv-loop units out₀ n i₀ out i = (i ≤ length units) × Laying out₀ units (drop i units) i out
@@ -58,8 +58,8 @@ returns-2 c =
     let a = at .before .before .args in
     given-done (a .units .now) (a .out .now) refl (search needs) (lay-end (at .loop .inv .1) (drop-of-length-le (a .units .now) {i = at .loop .i} (search needs)))
 
-pub store-units-spec : {M : Type 1} → statement M
-store-units-spec =
+pub store-spec : {M : Type 1} → statement M
+store-spec =
     tie.close
     (tie.spec
     Inv-loop

@@ -4,8 +4,8 @@ use Prim.Native.Nat.{_≤_}
 use lib.ListN.{length}
 use Rattle.lists.proofs.Closing.{Filled-from, filled-end, filled-down, filled-here, filled-whole}
 use borrow.Author.Needs.{needs}
-use Rattle.joining.proofs.kept_units.Statement.{statement}
-use Rattle.joining.proofs.kept_units.Tie as tie
+use Rattle.to_units.proofs.kept.Statement.{statement}
+use Rattle.to_units.proofs.kept.Tie as tie
 
 abbrev Inv-loop : tie.InvT-loop
 Inv-loop units n₀ n = (n ≤ length units) × Filled-from 13 units n
@@ -49,8 +49,8 @@ returns-2 c =
     let a = at .before .args in
     filled-whole 13 (a .units .now) (at .loop .n) (at .loop .inv .1) (search needs)
 
-pub kept-units-spec : {M : Type 1} → statement M
-kept-units-spec =
+pub kept-spec : {M : Type 1} → statement M
+kept-spec =
     tie.close
     (tie.spec
     Inv-loop
