@@ -2,7 +2,7 @@
 -- Assumes nothing.
 use mathlib.Core.Bool.{Bool, true, false}
 use mathlib.Core.List.{List, [], _∷_, _++_}
-use Prim.Native.Nat.{ℕ, zero, suc}
+use Prim.Native.Nat.{ℕ}
 use lib.Dec.{T, eqb}
 use lib.ListN.{length, replicate}
 use Rattle.lists.specs.Bits.{bitOf, gather, bitsOf}
@@ -21,30 +21,24 @@ use Rattle.coding.specs.declared.OctetWritten.{OctetWritten}
 use Rattle.coding.specs.declared.OctetWritten.the-variants as octet-written
 use Rattle.coding.specs.Readings.{unmentioned, reservedReading, withAlphabet, withClass}
 use Rattle.coding.specs.OctetRead.{classIn, discardIn, storeIn, generalReading, noticeReading, lastReading, readShort, readPage, octetRules, octetReads}
-use Rattle.coding.specs.OctetWritten.{sameCoding, smallest, octetWrites, writeRules as codingRules}
+use Rattle.coding.specs.OctetWritten.{sameCoding, smallest, octetWrites, writeRules as aloneRules}
+use Rattle.coding.specs.LanguageLetters.{codingRules}
+use Rattle.fields.specs.Letters.{anyLetter}
 use Rattle.coding.specs.Holding.{textRules}
 use Rattle.letters.specs.Tables.{mainTable, extension, among, beside}
-use Rattle.letters.specs.Writing.{septetsIn, listedIn, listedAs, septetsOf}
-use Rattle.letters.specs.Reading.{unitIn, textIn, afterEscapeIn, mainUnit, afterEscape, textOf, escapedIn}
+use Rattle.letters.specs.Writing.{septetsIn, listedIn}
+use Rattle.letters.specs.Reading.{unitIn, textIn, afterEscapeIn, textOf, escapedIn}
 use Rattle.stream.specs.Stream.{streamBit, cut, octetsFor, packed, unpacked}
 use Rattle.stream.specs.UssdPacking.{last, addsCr, closed, ussdOctets, dropsCr, opened, ussdSeptets}
 use Rattle.stream.specs.Pages.{page, pageOctets}
+use Rattle.lettered.proofs.Examples.{times}
+pub use Rattle.lettered.proofs.Examples.{same}
 use Rattle.demands.specs.declared.MessageRead.{MessageRead}
 use Rattle.demands.specs.declared.MessageRead.the-variants as read
 use Rattle.demands.specs.declared.MessageWritten.{MessageWritten}
 use Rattle.demands.specs.declared.MessageWritten.the-variants as written
 use Rattle.demands.specs.MessageRead.{textLengthRules, readRules, readAnswers, readLeaves}
 use Rattle.demands.specs.MessageWritten.{textSizeRules, writeRules, writeAnswers, writeLeaves}
-
-abbrev pub same : List ℕ → List ℕ → Bool
-same [] [] = true
-same [] (y ∷ ys) = false
-same (x ∷ xs) [] = false
-same (x ∷ xs) (y ∷ ys) = both (eqb x y) (same xs ys)
-
-pub times : ℕ → List ℕ → List ℕ
-times zero l = []
-times (suc n) l = l ++ times n l
 
 -- writing the text as plain 7-bit gives these octets and this count; reading the octets gives the text; septets read as the text;
 -- an octet of a short message reads as the reading; a reading is written as the octet
@@ -113,5 +107,5 @@ cases =
     ∷ []
 
 pub cases-hold : T (allHold cases)
-unfolding allHold holds cases times wrote was said coded writeAnswers writeLeaves readAnswers readLeaves verdict writeRules readRules textLengthRules textSizeRules codingRules textRules octetRules octetReads octetWrites smallest firstPlace numbersFrom readShort readPage bitsOf gather bitOf generalReading noticeReading lastReading classIn discardIn storeIn septetsIn listedIn among beside mainTable extension unitIn afterEscapeIn textIn escapedIn packed unpacked streamBit cut octetsFor ussdOctets closed addsCr last ussdSeptets opened dropsCr pageOctets page laid withoutClosing beforeKept
+unfolding allHold holds cases times wrote was said coded writeAnswers writeLeaves readAnswers readLeaves verdict writeRules readRules textLengthRules textSizeRules codingRules aloneRules anyLetter textRules octetRules octetReads octetWrites smallest firstPlace numbersFrom readShort readPage bitsOf gather bitOf generalReading noticeReading lastReading classIn discardIn storeIn septetsIn listedIn among beside mainTable extension unitIn afterEscapeIn textIn escapedIn packed unpacked streamBit cut octetsFor ussdOctets closed addsCr last ussdSeptets opened dropsCr pageOctets page laid withoutClosing beforeKept
 cases-hold = tt

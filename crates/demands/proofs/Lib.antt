@@ -1,9 +1,13 @@
+pub mod Unlettered
 pub mod Steps
+pub mod LetteredSteps
 pub mod Septets
 pub mod Texts
 pub mod Accepting
 pub mod Octets
 pub mod Demands
+pub mod Lettered
+pub mod Prefixed
 pub mod Refusing
 pub mod Never
 pub mod Cases

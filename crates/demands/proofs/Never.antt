@@ -20,12 +20,14 @@ use Rattle.words.specs.Judging.{Rule, when, Verdict, refused, accepted, verdict
 use Rattle.lists.proofs.Tests.{both, both-left, both-right, everyBelow, every-below}
 use Rattle.words.proofs.Judging.{settle-given}
 use Rattle.coding.specs.declared.Reading.{Reading}
-use Rattle.coding.specs.Readings.{unmentioned, reservedReading}
+use Rattle.coding.specs.Readings.{unmentioned, reservedReading, withoutLetters}
 use Rattle.fields.specs.Numbers.{alphabetNo}
 use Rattle.coding.specs.OctetRead.{classIn, discardIn, storeIn, generalReading, noticeReading, lastReading, readShort, octetRules}
 use Rattle.coding.specs.declared.OctetWritten.the-variants as octet-written
-use Rattle.coding.specs.OctetWritten.{smallest, octetWrites, writeRules as codingRules}
+use Rattle.coding.specs.OctetWritten.{smallest, writeRules as aloneRules}
+use Rattle.coding.specs.LanguageLetters.{codingRules, codingWrites}
 use Rattle.coding.specs.Holding.{isUcs2, isData, textRules}
+use Rattle.coding.proofs.TextOctet.{coding-written}
 use Rattle.coding.proofs.Theorems.{settled, write-read}
 use Rattle.demands.specs.declared.MessageRead.the-variants as read
 use Rattle.demands.specs.declared.MessageWritten.the-variants as written
@@ -80,12 +82,13 @@ part [] rest n e = inr (refl, e)
 part (when true q ∷ first) rest n e = inl e
 part (when false q ∷ first) rest n e = part first rest n e
 
-not-coding : (a b c : Bool) → numberOfVerdict (verdict (when a Unwritable ∷ when b Unwritable ∷ when c Unwritable ∷ [])) ≡ 3 → ⊥
+not-coding : (a b c d : Bool) → numberOfVerdict (verdict (when a Unwritable ∷ when b Unwritable ∷ when c Unwritable ∷ when d Unwritable ∷ [])) ≡ 3 → ⊥
 unfolding verdict
-not-coding true b c e = omega arith
-not-coding false true c e = omega arith
-not-coding false false true e = omega arith
-not-coding false false false e = omega arith
+not-coding true b c d e = omega arith
+not-coding false true c d e = omega arith
+not-coding false false true d e = omega arith
+not-coding false false false true e = omega arith
+not-coding false false false false e = omega arith
 
 not-writing : (a b c d f : Bool) (u : ℕ) → numberOfVerdict (verdict (when a Compressed ∷ when b NoText ∷ when false Prefixed ∷ when c (Unlisted u) ∷ when d TooLong ∷ when f NoRoom ∷ [])) ≡ 3 → ⊥
 unfolding verdict
@@ -98,18 +101,19 @@ not-writing false false false false false u e = omega arith
 
 -- a reading that a short message's octet has bears no prefix mark
 written-unmarked : (r : Reading) → verdict (codingRules ShortMessage r) ≡ accepted → r .prefix ≡ false
-unfolding octetWrites
+unfolding codingWrites
 written-unmarked r v =
-    let w : octetWrites ShortMessage r ≡ octet-written.Done (smallest ShortMessage r) = settle-given (verdict (codingRules ShortMessage r)) octet-written.Refused (octet-written.Done (smallest ShortMessage r)) v in
-    let same : readShort (smallest ShortMessage r) ≡ r = read-given ShortMessage (smallest ShortMessage r) r (sym (write-read ShortMessage r (smallest ShortMessage r) w)) in
+    let c : codingWrites ShortMessage r ≡ octet-written.Done (smallest ShortMessage r) = settle-given (verdict (codingRules ShortMessage r)) octet-written.Refused (octet-written.Done (smallest ShortMessage r)) v in
+    let w = coding-written ShortMessage r (smallest ShortMessage r) c .1 in
+    let same : readShort (smallest ShortMessage r) ≡ withoutLetters r = read-given ShortMessage (smallest ShortMessage r) (withoutLetters r) (sym (write-read ShortMessage r (smallest ShortMessage r) w)) in
     ap (λ (x : Reading). x .prefix) (sym same) ∙ short-reads (smallest ShortMessage r) (settled ShortMessage r (smallest ShortMessage r) w .within) .0
 
 pub write-short-never-3 : (r : Reading) (t : List ℕ) (room : ℕ) → writeAnswers ShortMessage r t room ≡ written.Refused Prefixed → ⊥
-unfolding writeRules codingRules textRules textSizeRules
+unfolding writeRules codingRules aloneRules textRules textSizeRules
 write-short-never-3 r t room e = go (part (codingRules ShortMessage r) (textRules ShortMessage r ++ sizeRules ShortMessage r t room) 3 (ap numberOfVerdict (write-verdict ShortMessage r t room (written.Refused Prefixed) (sym e))))
   where
     go : (numberOfVerdict (verdict (codingRules ShortMessage r)) ≡ 3) ⊎ ((verdict (codingRules ShortMessage r) ≡ accepted) × (numberOfVerdict (verdict (textRules ShortMessage r ++ sizeRules ShortMessage r t room)) ≡ 3)) → ⊥
-    go (inl n) = not-coding _ _ _ n
+    go (inl n) = not-coding _ _ _ _ n
     go (inr (v, n)) =
         not-writing (r .compressed) (isData (r .alphabet)) _ _ _ _
         (ap (λ (b : Bool). numberOfVerdict (verdict (when (r .compressed) Compressed ∷ when (isData (r .alphabet)) NoText ∷ when b Prefixed ∷ sizeRules ShortMessage r t room))) (sym (written-unmarked r v)) ∙ n)

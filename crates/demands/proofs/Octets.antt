@@ -17,7 +17,9 @@ use Rattle.coding.specs.declared.OctetRead.the-variants as octet-read
 use Rattle.coding.specs.OctetRead.{octetReads}
 use Rattle.coding.specs.OctetWritten.{smallest}
 use Rattle.coding.specs.Holding.{isUcs2}
-use Rattle.coding.proofs.Theorems.{settled, write-read, write-complete}
+use Rattle.coding.specs.LanguageLetters.{isLettered}
+use Rattle.coding.proofs.TextOctet.{coding-written, coding-read, coding-complete}
+use Rattle.coding.proofs.Theorems.{settled}
 use Rattle.letters.specs.Writing.{septetsOf, firstUnlisted}
 use Rattle.letters.specs.Reading.{textOf}
 use Rattle.letters.proofs.Theorems.{Codable, septets-below, septets-injective, septets-closing, text-septets}
@@ -28,7 +30,9 @@ use Rattle.stream.proofs.RoundTrips.{pack-fits, unpack-pack-short, unpack-pack-
 use Rattle.demands.specs.MessageRead.{fitsReading, textOfMessage}
 use Rattle.demands.specs.MessageWritten.{messageOctets, messageCount}
 use Rattle.demands.specs.Demands.{Writable, FilledByCr, OneCrMore}
-use Rattle.demands.proofs.Texts.{codable-told, codable-snoc, cr-codable, codable-closed, closing-septets, more-septets, septets-more, filled-doubled, doubled-filled}
+use Rattle.demands.proofs.Unlettered.{unmarked}
+use Rattle.letters.proofs.Texts.{codable-told, codable-snoc, cr-codable, codable-closed, closing-septets}
+use Rattle.demands.proofs.Texts.{more-septets, septets-more, filled-doubled, doubled-filled}
 
 -- ---- what an accepted text is, by the alphabet of its reading
 
@@ -43,11 +47,11 @@ units-sized : (service : Service) (r : Reading) (t : List ℕ) (room : ℕ) → 
 units-sized service r t room b w =
     ltb-false _ _ (sym (ap (λ (x : Bool). cond x (ltb (mostUnits service) (length t)) (ltb (mostSeptets service) (length (septetsOf t)))) b) ∙ w .sized)
 
-septets-octets : (service : Service) (r : Reading) (t : List ℕ) → isUcs2 (r .alphabet) ≡ false → messageOctets service r t ≡ octetsOf service (septetsOf t)
-septets-octets service r t b = simp b
+septets-octets : (service : Service) (r : Reading) (t : List ℕ) → isLettered service r ≡ false → isUcs2 (r .alphabet) ≡ false → messageOctets service r t ≡ octetsOf service (septetsOf t)
+septets-octets service r t l b = simp (l, b)
 
-units-octets : (service : Service) (r : Reading) (t : List ℕ) → isUcs2 (r .alphabet) ≡ true → messageOctets service r t ≡ ucs2OctetsOf service t
-units-octets service r t b = simp b
+units-octets : (service : Service) (r : Reading) (t : List ℕ) → isLettered service r ≡ false → isUcs2 (r .alphabet) ≡ true → messageOctets service r t ≡ ucs2OctetsOf service t
+units-octets service r t l b = simp (l, b)
 
 septets-count : (service : Service) (r : Reading) (t : List ℕ) → isUcs2 (r .alphabet) ≡ false → messageCount service r t ≡ countOf service (septetsOf t)
 septets-count service r t b = simp b
@@ -72,16 +76,16 @@ module _ (r : Reading) (t u : List ℕ) (room other : ℕ) where
       by-alphabet r
       (λ b. septets-injective t u (septets-codable ShortMessage r t room b w) (septets-codable ShortMessage r u other b v)
       (pack-injective (septetsOf t) (septetsOf u) (septets-below t) (septets-below u) (sym (septets-count ShortMessage r t b) ∙ n ∙ septets-count ShortMessage r u b)
-      (sym (septets-octets ShortMessage r t b) ∙ e ∙ septets-octets ShortMessage r u b)))
-      (λ b. units-injective t u (sym (units-octets ShortMessage r t b) ∙ e ∙ units-octets ShortMessage r u b))
+      (sym (septets-octets ShortMessage r t refl b) ∙ e ∙ septets-octets ShortMessage r u refl b)))
+      (λ b. units-injective t u (sym (units-octets ShortMessage r t refl b) ∙ e ∙ units-octets ShortMessage r u refl b))
 
   -- ---- USSD
 
   pub ussd-same-iff : isUcs2 (r .alphabet) ≡ false → Writable Ussd r t room → Writable Ussd r u other
       → (messageOctets Ussd r t ≡ messageOctets Ussd r u) ↔ ((t ≡ u) ⊎ (OneCrMore t u ⊎ OneCrMore u t))
   ussd-same-iff b w v = (
-    λ e. to (ussd-iff (septetsOf t) (septetsOf u) (septets-below t) (septets-below u) .0 (sym (septets-octets Ussd r t b) ∙ e ∙ septets-octets Ussd r u b)),
-    λ x. septets-octets Ussd r t b ∙ ussd-iff (septetsOf t) (septetsOf u) (septets-below t) (septets-below u) .1 (from x) ∙ sym (septets-octets Ussd r u b),
+    λ e. to (ussd-iff (septetsOf t) (septetsOf u) (septets-below t) (septets-below u) .0 (sym (septets-octets Ussd r t refl b) ∙ e ∙ septets-octets Ussd r u refl b)),
+    λ x. septets-octets Ussd r t refl b ∙ ussd-iff (septetsOf t) (septetsOf u) (septets-below t) (septets-below u) .1 (from x) ∙ sym (septets-octets Ussd r u refl b),
   )
     where
       c : Codable t
@@ -101,7 +105,7 @@ module _ (r : Reading) (t u : List ℕ) (room other : ℕ) where
       from (inr (inr m)) = inr (inr (more-septets u t d m))
 
   pub ussd-ucs2-one-to-one : isUcs2 (r .alphabet) ≡ true → messageOctets Ussd r t ≡ messageOctets Ussd r u → t ≡ u
-  ussd-ucs2-one-to-one b e = units-injective t u (sym (units-octets Ussd r t b) ∙ e ∙ units-octets Ussd r u b)
+  ussd-ucs2-one-to-one b e = units-injective t u (sym (units-octets Ussd r t refl b) ∙ e ∙ units-octets Ussd r u refl b)
 
   -- ---- one broadcast page
 
@@ -115,14 +119,14 @@ module _ (r : Reading) (t u : List ℕ) (room other : ℕ) where
           let d = septets-codable Broadcast r u other b v in
           let iff = page-iff (septetsOf t) (septetsOf u) (septets-sized Broadcast r t room b w) (septets-sized Broadcast r u other b v) (septets-below t) (septets-below u) in (
             λ e. septets-injective (withoutClosing 0x000d t) (withoutClosing 0x000d u) (codable-closed t c) (codable-closed u d)
-                (sym (closing-septets t c) ∙ iff .0 (sym (septets-octets Broadcast r t b) ∙ e ∙ septets-octets Broadcast r u b) ∙ closing-septets u d),
-            λ e. septets-octets Broadcast r t b ∙ iff .1 (closing-septets t c ∙ ap septetsOf e ∙ sym (closing-septets u d)) ∙ sym (septets-octets Broadcast r u b),
+                (sym (closing-septets t c) ∙ iff .0 (sym (septets-octets Broadcast r t (w .holds .unmarked) b) ∙ e ∙ septets-octets Broadcast r u (v .holds .unmarked) b) ∙ closing-septets u d),
+            λ e. septets-octets Broadcast r t (w .holds .unmarked) b ∙ iff .1 (closing-septets t c ∙ ap septetsOf e ∙ sym (closing-septets u d)) ∙ sym (septets-octets Broadcast r u (v .holds .unmarked) b),
           )
 
       units : isUcs2 (r .alphabet) ≡ true → (messageOctets Broadcast r t ≡ messageOctets Broadcast r u) ↔ (withoutClosing 0x000d t ≡ withoutClosing 0x000d u)
       units b =
           let iff = unit-page-iff t u (units-sized Broadcast r t room b w) (units-sized Broadcast r u other b v) in
-          (λ e. iff .0 (sym (units-octets Broadcast r t b) ∙ e ∙ units-octets Broadcast r u b), λ e. units-octets Broadcast r t b ∙ iff .1 e ∙ sym (units-octets Broadcast r u b))
+          (λ e. iff .0 (sym (units-octets Broadcast r t (w .holds .unmarked) b) ∙ e ∙ units-octets Broadcast r u (v .holds .unmarked) b), λ e. units-octets Broadcast r t (w .holds .unmarked) b ∙ iff .1 e ∙ sym (units-octets Broadcast r u (v .holds .unmarked) b))
 
 -- ---- the round trip
 
@@ -133,15 +137,18 @@ write-reads service r t room w = (back, by-alphabet r septets units)
   where
     back : octetReads service (smallest service r) ≡ octet-read.Done r
     back =
-        let k = write-complete service r (w .octet .0) (w .new) (w .plain) (w .octet .1 .0) (w .octet .1 .1) in
-        let s = settled service r (k .0) (k .1) in
-        ap (octetReads service) (s .first) ∙ write-read service r (k .0) (k .1)
+        let k = coding-complete service r (w .octet .0) (w .new) (w .plain) (w .octet .1 .0) (w .octet .1 .1) in
+        let s = settled service r (k .0) (coding-written service r (k .0) (k .1) .1) in
+        ap (octetReads service) (s .first) ∙ coding-read service r (k .0) (w .holds .unmarked) (k .1)
+
+    l : isLettered service r ≡ false
+    l = unmarked service r (w .holds .unmarked)
 
     septets : isUcs2 (r .alphabet) ≡ false → fitsReading service r (length (messageOctets service r t)) (messageCount service r t) ≡ true
-    septets b = simp b (pack-fits service (septetsOf t) (w .new) (septets-sized service r t room b w))
+    septets b = simp (l, b) (pack-fits service (septetsOf t) (w .new) (septets-sized service r t room b w))
 
     units : isUcs2 (r .alphabet) ≡ true → fitsReading service r (length (messageOctets service r t)) (messageCount service r t) ≡ true
-    units b = simp b (units-fit service t (w .new) (units-sized service r t room b w))
+    units b = simp (l, b) (units-fit service t (w .new) (units-sized service r t room b w))
 
 -- the text that is read where t was written
 abbrev pub readBack : Service → Reading → List ℕ → List ℕ
@@ -174,5 +181,5 @@ module _ (r : Reading) (t : List ℕ) (room : ℕ) where
   page-back w =
       by-alphabet r
       (λ b. let c = septets-codable Broadcast r t room b w in
-      simp b (ap textOf (unpack-pack-page (septetsOf t) (septets-sized Broadcast r t room b w) (septets-below t) ∙ closing-septets t c) ∙ text-septets (withoutClosing 0x000d t) (codable-closed t c)))
-      (λ b. simp b (unit-page-round-trip t))
+      simp (w .holds .unmarked, b) (ap textOf (unpack-pack-page (septetsOf t) (septets-sized Broadcast r t room b w) (septets-below t) ∙ closing-septets t c) ∙ text-septets (withoutClosing 0x000d t) (codable-closed t c)))
+      (λ b. simp (w .holds .unmarked, b) (unit-page-round-trip t))

@@ -36,6 +36,7 @@ use Rattle.stream.specs.declared.Packed.the-variants as packed
 use Rattle.stream.specs.Answers.{packedNumber, packedPosition, packedWritten, packedCount}
 use Rattle.stream.specs.SeptetCalls.{octetsOf, countOf, packRules, packAnswers, packLeaves, unpackRules, unpackAnswers, unpackLeaves, septetsOf as unpackedOf}
 use Rattle.stream.specs.UnitCalls.{ucs2OctetsOf, unitsOf, toOctetsRules, toOctetsAnswers, toOctetsLeaves, toUnitsRules, toUnitsAnswers, toUnitsLeaves}
+use Rattle.lettered.proofs.Rules.{filledTold}
 use Rattle.demands.specs.declared.MessageRead.the-variants as read
 use Rattle.demands.specs.declared.MessageWritten.the-variants as written
 use Rattle.demands.specs.MessageRead.{heldText, textLengthRules, textReads, textReadLeaves, readAnswers, readLeaves}
@@ -64,10 +65,6 @@ pub record Refuses (answer : Filled) (q : Refusal) (out left : List ℕ) : Type 
   pub position : filledPosition answer ≡ positionOf q
   pub nothing : filledWritten answer ≡ 0
   pub untouched : left ≡ out
-
-abbrev filledTold : Filled → Verdict
-filledTold (filled.Done n) = accepted
-filledTold (filled.Refused q) = refused q
 
 -- said once, of any rules and of any list that is stored
 filled-refuses : (rules : List Rule) (xs out : List ℕ) (q : Refusal) → settle (verdict rules) filled.Refused (filled.Done (length xs)) ≡ filled.Refused q

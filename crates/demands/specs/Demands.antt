@@ -3,6 +3,8 @@
 --   HoldsText r                          == a reading that holds text: not compressed, neither 8-bit nor WAP, no prefix mark
 --   Writable service r t room            == no rule of the whole writer refuses the text t under the reading r (8, 1, 2, 3, 6, 5, 7)
 --   Readable service coding count o room r == no rule of the whole reader refuses the octets o, which read as r (1, 2, 3, 4, 7)
+--   LetteredWritable r t room            == none refuses the text t on a broadcast page behind the letters of r (8, 1, 2, 11, 6, 5, 7)
+--   LetteredReadable coding count o room == none refuses the octets o of such a page (1, 2, 4, 11, 7)
 --   Accepted service r t out             == the writer, lent the buffer out, answers without a refusal
 --   sent, sentCount, sentCoding          == the octets that it leaves at the front of out, as many as it reports; the count; the coding octet
 --   Comes service coding count o r text  == the reader, lent any buffer with room for the text, accepts the octets o, answers with the reading r and
@@ -12,20 +14,25 @@
 use mathlib.Core.Path.{_≡_}
 use mathlib.Core.Bool.{true, false}
 use mathlib.Core.List.{List, [], _∷_, _++_}
+use mathlib.Core.Logic.{_⊎_}
 use Prim.Native.Nat.{ℕ, _%_, _<_, _≤_}
 use lib.ListN.{length, take}
 use Rattle.words.specs.declared.Service.{Service}
+use Rattle.words.specs.declared.Service.the-variants.{Broadcast}
 use Rattle.words.specs.Sizes.{isOldPage}
 use Rattle.lists.specs.Lists.{laid}
+use Rattle.fields.specs.Letters.{areLetters}
 use Rattle.coding.specs.declared.Reading.{Reading}
+use Rattle.coding.specs.Readings.{withoutLetters}
 use Rattle.coding.specs.declared.OctetRead.the-variants as octet-read
-use Rattle.coding.specs.OctetRead.{octetReads}
+use Rattle.coding.specs.OctetRead.{readUnder, octetReads}
 use Rattle.coding.specs.Holding.{isUcs2, isData}
 use Rattle.letters.specs.Writing.{septetsOf}
 use Rattle.stream.specs.UssdPacking.{last}
+use Rattle.lettered.specs.LetteredPage.{roomSeptets, roomUnits, wrongLetters, letteredText}
 use Rattle.demands.specs.declared.MessageRead.the-variants as read
 use Rattle.demands.specs.MessageRead.{fitsReading, textOfMessage, readAnswers, readLeaves}
-use Rattle.demands.specs.MessageWritten.{notCodable, overSize, messageOctets, writeAnswers, writeLeaves}
+use Rattle.demands.specs.MessageWritten.{notCodable, overRoom, overSize, messageOctets, writeAnswers, writeLeaves}
 use Rattle.demands.specs.Reports.{writeNumber, writeWritten, writeCount, writeCoding}
 
 pub record HoldsText (r : Reading) : Type 0 where
@@ -47,6 +54,22 @@ pub record Readable (service : Service) (coding count : ℕ) (o : List ℕ) (roo
   pub holds : HoldsText r
   pub sized : fitsReading service r (length o) count ≡ true
   pub fits : length (textOfMessage service r count o) ≤ room
+
+pub record LetteredWritable (r : Reading) (t : List ℕ) (room : ℕ) : Type 0 where
+  pub mark : r .prefix ≡ true
+  pub plain : r .reserved ≡ false
+  pub octet : (o : ℕ) × ((o < 256) × (octetReads Broadcast o ≡ octet-read.Done (withoutLetters r)))
+  pub letters : areLetters (r .letters) ≡ true
+  pub codable : notCodable (isUcs2 (r .alphabet)) t ≡ false
+  pub sized : overRoom roomSeptets roomUnits (isUcs2 (r .alphabet)) t ≡ false
+  pub fits : 82 ≤ room
+
+pub record LetteredReadable (coding count : ℕ) (o : List ℕ) (room : ℕ) : Type 0 where
+  pub mark : (coding ≡ 0b0001_0000) ⊎ (coding ≡ 0b0001_0001)
+  pub whole : length o ≡ 82
+  pub uncounted : count ≡ 0
+  pub right : wrongLetters (isUcs2 (readUnder Broadcast coding .alphabet)) o ≡ false
+  pub fits : length (letteredText (isUcs2 (readUnder Broadcast coding .alphabet)) o) ≤ room
 
 -- a success has the number 0, and no refusal has (number-above-0)
 abbrev pub Accepted : Service → Reading → List ℕ → List ℕ → Type 0

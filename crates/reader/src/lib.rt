@@ -4,18 +4,20 @@ ghost use mathlib.Core.Bool.{false};
 ghost use lib.ListN.{length};
 ghost use Rattle.words.specs.Sizes.{isOldPage};
 ghost use Rattle.letters.specs.Reading.{readAs, textAnswers, textLeaves};
-ghost use Rattle.demands.specs.MessageRead.{textReads, textReadLeaves, readAnswers, readLeaves};
+ghost use Rattle.demands.specs.MessageRead.{textReads, textReadLeaves, letteredAs, pageReads, pageReadLeaves, readAnswers, readLeaves};
 ghost use Rattle.demands.specs.Inner.{heldReads, heldReadLeaves, shownAs};
 use coding::Held;
 use coding::OctetRead;
 use coding::Reading;
 use demands::MessageRead;
+use lettered::LetteredRead;
 use words::Filled;
 use words::Service;
 
 // Reads a message: the units of its text and what its coding octet says.
-// Refuses compressed text (1), a coding that holds no text (2), a prefix mark (3), octets that do not fit the service or the
-// count (4), a short buffer (7). Stores the units at the front of out; a refusal stores nothing.
+// Refuses compressed text (1), a coding that holds no text (2), a prefix mark (3) but on a broadcast page, octets that do not fit the service or the
+// count (4), on such a page letters of which one is not a to z or no CR behind them (11), a short buffer (7). Stores the units at the front of out; a
+// refusal stores nothing.
 pub fn read_message(
     service: Service,
     coding: u8,
@@ -27,12 +29,43 @@ pub fn read_message(
     ensures buffer { λ r. ⌜ now (out .exit) ≡ readLeaves service coding count (now (octets .entry)) (now (out .entry)) ⌝ }
 {
     match coding::read_octet(service, coding) {
-        OctetRead::Done(reading) => read_held(service, reading, count, octets, out),
+        OctetRead::Done(reading) => {
+            if reading.lettered(service) {
+                return read_page(reading, count, octets, out);
+            }
+            read_held(service, reading, count, octets, out)
+        }
         OctetRead::Refused(refusal) => MessageRead::Refused(refusal),
     }
 }
 
-// The reader behind the coding octet.
+// Reads a broadcast page behind the letters of its language: the units of its text, and the reading with the letters.
+// Refuses octets that do not fit the page, or a count that is not 0 (4), letters of which one is not a to z, or no CR behind them in 7-bit text (11), a
+// short buffer (7). Stores the units at the front of out; a refusal stores nothing.
+pub fn read_page(reading: Reading, count: usize, octets: &[u8], out: &mut [u16]) -> MessageRead
+    ensures answer { λ r. ⌜ r ≡ pageReads reading count (now (octets .entry)) (length (now (out .entry))) ⌝ }
+    ensures buffer { λ r. ⌜ now (out .exit) ≡ pageReadLeaves reading count (now (octets .entry)) (now (out .entry)) ⌝ }
+{
+    page_shown(
+        reading,
+        lettering::read_lettered(reading.is_ucs2(), count, octets, out),
+    )
+}
+
+// The answer of reading such a page, with the letters in the reading.
+fn page_shown(reading: Reading, answer: LetteredRead) -> MessageRead
+    ensures { λ r. ⌜ r ≡ letteredAs reading answer ⌝ }
+{
+    match answer {
+        LetteredRead::Done { units, letters } => MessageRead::Done {
+            units: units,
+            reading: reading.with_letters(letters),
+        },
+        LetteredRead::Refused(refusal) => MessageRead::Refused(refusal),
+    }
+}
+
+// The reader of a text by itself behind the coding octet.
 fn read_held(
     service: Service,
     reading: Reading,

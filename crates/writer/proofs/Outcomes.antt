@@ -15,6 +15,10 @@ use Rattle.writer.proofs.settle_plain.Kinds as settle-plain-kinds
 use Rattle.writer.proofs.settle_plain.Reads as settle-plain
 use Rattle.writer.proofs.write_settled.Kinds as write-settled-kinds
 use Rattle.writer.proofs.write_settled.Reads as write-settled
+use Rattle.writer.proofs.code_message.Kinds as code-message-kinds
+use Rattle.writer.proofs.code_message.Reads as code-message
+use Rattle.writer.proofs.write_coded.Kinds as write-coded-kinds
+use Rattle.writer.proofs.write_coded.Reads as write-coded
 
 pub octet-unique : OneAnswer octet-kinds.ps octet-kinds.r octet.Post
 octet-unique κs a x y u v p q = p ∙ sym q
@@ -39,3 +43,12 @@ write-settled-unique κs a x y u v p q = p .0 ∙ sym (q .0)
 
 pub write-settled-buffer-unique : OneBuffer write-settled-kinds.ps write-settled-kinds.r (λ κs u. now (u .1 .1 .0)) write-settled.Post
 write-settled-buffer-unique κs a x y u v p q = p .1 ∙ sym (q .1)
+
+pub code-message-unique : OneAnswer code-message-kinds.ps code-message-kinds.r code-message.Post
+code-message-unique κs a x y u v p q = p ∙ sym q
+
+pub write-coded-unique : OneAnswer write-coded-kinds.ps write-coded-kinds.r write-coded.Post
+write-coded-unique κs a x y u v p q = p .0 ∙ sym (q .0)
+
+pub write-coded-buffer-unique : OneBuffer write-coded-kinds.ps write-coded-kinds.r (λ κs u. now (u .1 .1 .0)) write-coded.Post
+write-coded-buffer-unique κs a x y u v p q = p .1 ∙ sym (q .1)

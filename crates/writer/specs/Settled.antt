@@ -1,5 +1,5 @@
--- What is settled of a text before it is seen: by its reading the coding octet, and whether it is UCS2 (8, 1, 2, 3); then the text is
--- written (6, 5, 7). The whole writer is the two together (proofs/Settling.antt, settled-writes).
+-- What is settled of a text by itself before it is seen: by its reading the coding octet, and whether it is UCS2 (8, 1, 2, 3); then the text is
+-- written (6, 5, 7). The whole writer is the two together, but for a page behind letters (proofs/Settling.antt, settled-writes).
 -- Own rule: none. Cited by settle, settle_plain, write_settled and the methods of TextCoding. Assumes nothing.
 --   octetIn, ucs2In              == the coding octet of what is settled, and whether it is UCS2
 --   heldSettled, settledBy       == what is settled, by the coding octet that a reading is written with, and by the text that it holds
@@ -14,7 +14,7 @@ use Rattle.coding.specs.declared.Held.{Held}
 use Rattle.coding.specs.declared.Held.the-variants as held
 use Rattle.coding.specs.declared.OctetWritten.{OctetWritten}
 use Rattle.coding.specs.declared.OctetWritten.the-variants as octet-written
-use Rattle.coding.specs.OctetWritten.{octetWrites}
+use Rattle.coding.specs.LanguageLetters.{codingWrites}
 use Rattle.coding.specs.Holding.{holdsText}
 use Rattle.demands.specs.declared.MessageWritten.{MessageWritten}
 use Rattle.demands.specs.declared.MessageWritten.the-variants as written
@@ -40,7 +40,7 @@ settledBy service (octet-written.Done octet) h = heldSettled service octet h
 settledBy service (octet-written.Refused q) h = settled.Refused q
 
 unfoldable pub settledAs : Service → Reading → Settled
-settledAs service r = settledBy service (octetWrites service r) (holdsText service r)
+settledAs service r = settledBy service (codingWrites service r) (holdsText service r)
 
 abbrev pub settledWrites : Settled → List ℕ → ℕ → MessageWritten
 settledWrites (settled.Text c) units room = textWrites (c .service) (c .ucs2) (c .octet) units room

@@ -4,13 +4,15 @@ ghost use mathlib.Core.Bool.{false};
 ghost use lib.ListN.{length};
 ghost use Rattle.words.specs.Sizes.{isOldPage};
 ghost use Rattle.coding.specs.Readings.{plainIn};
-ghost use Rattle.demands.specs.MessageWritten.{textWrites, textWriteLeaves, writeAnswers, writeLeaves};
+ghost use Rattle.demands.specs.MessageWritten.{textWrites, textWriteLeaves, pageAs, pageWrites, pageWriteLeaves, writeAnswers, writeLeaves};
 ghost use Rattle.demands.specs.Inner.{packedAs, unitsAs};
 ghost use Rattle.writer.specs.Settled.{octetIn, ucs2In, heldSettled, settledAs, settledWrites, settledLeaves};
+ghost use Rattle.writer.specs.Coded.{letteredBy, codedAs, codedWrites, codedLeaves};
 use coding::Held;
 use coding::OctetWritten;
 use coding::Reading;
 use demands::MessageWritten;
+use fields::Letters;
 use stream::Packed;
 use words::Filled;
 use words::Refusal;
@@ -46,10 +48,24 @@ pub enum Settled {
     Refused(Refusal),
 }
 
+// How a broadcast page behind the letters of its language is coded: the coding octet, whether it is UCS2, the letters. Only code_message makes one.
+pub struct PageCoding {
+    octet: u8,
+    ucs2: bool,
+    letters: Letters,
+}
+
+// What settles how one message is written.
+pub enum MessageCoding {
+    // As a text by itself, or why none is written so.
+    Text(Settled),
+    Lettered(PageCoding),
+}
+
 // Writes a message: the octets of a text under a reading, with the length count and the coding octet.
 // Refuses a reading that cannot be written under the service (8), compressed text (1), a coding that holds no text (2), a prefix
-// mark (3), a unit that is not in the alphabet (6, the first), a text over the service's size (5), a short buffer (7).
-// Stores the octets at the front of out; a refusal stores nothing.
+// mark (3; on a broadcast page only letters of which one is not a to z, 11), a unit that is not in the alphabet (6, the first), a text over the
+// size (5), a short buffer (7). Stores the octets at the front of out; a refusal stores nothing.
 pub fn write_message(
     service: Service,
     reading: Reading,
@@ -59,15 +75,81 @@ pub fn write_message(
     ensures answer { λ r. ⌜ r ≡ writeAnswers service reading (now (units .entry)) (length (now (out .entry))) ⌝ }
     ensures buffer { λ r. ⌜ now (out .exit) ≡ writeLeaves service reading (now (units .entry)) (now (out .entry)) ⌝ }
 {
-    write_settled(settle(service, reading), units, out)
+    write_coded(code_message(service, reading), units, out)
 }
 
-// What a reading settles of a text before it is seen.
+// What a reading settles of one message before its text is seen.
+// Refuses a reading that cannot be written under the service (8), compressed text (1), a coding that holds no text (2), a prefix mark (3) but on a
+// broadcast page.
+pub fn code_message(service: Service, reading: Reading) -> MessageCoding
+    ensures answer { λ r. ⌜ r ≡ codedAs service reading ⌝ }
+{
+    if reading.lettered(service) {
+        return page_coding(reading, reading.text_octet(service));
+    }
+    MessageCoding::Text(settle(service, reading))
+}
+
+// The same of a page behind letters, by its coding octet.
+fn page_coding(reading: Reading, written: OctetWritten) -> MessageCoding
+    ensures { λ r. ⌜ r ≡ letteredBy reading written ⌝ }
+{
+    let letters = reading.letters;
+    match written {
+        OctetWritten::Done(octet) => MessageCoding::Lettered(PageCoding {
+            octet: octet,
+            ucs2: reading.is_ucs2(),
+            letters: letters,
+        }),
+        OctetWritten::Refused(refusal) => MessageCoding::Text(Settled::Refused(refusal)),
+    }
+}
+
+// Writes one message for which all else is settled, and hands on why it is not.
+// Refuses, of a page behind letters, those of which one is not a to z (11); a unit that is not in the alphabet (6, the first), a text over the size
+// (5), a short buffer (7). Stores the octets at the front of out; a refusal stores nothing.
+pub fn write_coded(coding: MessageCoding, units: &[u16], out: &mut [u8]) -> MessageWritten
+    ensures answer { λ r. ⌜ r ≡ codedWrites coding (now (units .entry)) (length (now (out .entry))) ⌝ }
+    ensures buffer { λ r. ⌜ now (out .exit) ≡ codedLeaves coding (now (units .entry)) (now (out .entry)) ⌝ }
+{
+    match coding {
+        MessageCoding::Text(settled) => write_settled(settled, units, out),
+        MessageCoding::Lettered(coding) => write_page(coding, units, out),
+    }
+}
+
+// A page behind the letters of its language: 11, 6, 5, 7.
+fn write_page(coding: PageCoding, units: &[u16], out: &mut [u8]) -> MessageWritten
+    ensures answer { λ r. ⌜ r ≡ pageWrites (coding .ucs2) (coding .letters) (coding .octet) (now (units .entry)) (length (now (out .entry))) ⌝ }
+    ensures buffer { λ r. ⌜ now (out .exit) ≡ pageWriteLeaves (coding .ucs2) (coding .letters) (now (units .entry)) (now (out .entry)) ⌝ }
+{
+    let letters = coding.letters;
+    paged(
+        coding.octet,
+        lettering::write_lettered(coding.ucs2, letters, units, out),
+    )
+}
+
+// The answer of writing such a page, with the coding octet. It has no count.
+fn paged(octet: u8, answer: Filled) -> MessageWritten
+    ensures { λ r. ⌜ r ≡ pageAs octet answer ⌝ }
+{
+    match answer {
+        Filled::Done(stored) => MessageWritten::Done {
+            octets: stored,
+            count: 0,
+            coding: octet,
+        },
+        Filled::Refused(refusal) => MessageWritten::Refused(refusal),
+    }
+}
+
+// What a reading settles of a text by itself before it is seen.
 // Refuses a reading that cannot be written under the service (8), compressed text (1), a coding that holds no text (2), a prefix mark (3).
 pub fn settle(service: Service, reading: Reading) -> Settled
     ensures answer { λ r. ⌜ r ≡ settledAs service reading ⌝ }
 {
-    match reading.write(service) {
+    match reading.text_octet(service) {
         OctetWritten::Done(octet) => held_settled(service, octet, reading.holds(service)),
         OctetWritten::Refused(refusal) => Settled::Refused(refusal),
     }

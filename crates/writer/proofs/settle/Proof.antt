@@ -7,8 +7,8 @@ use borrow.Author.Needs.{needs}
 use Rattle.writer.proofs.settle.Statement.{statement}
 use Rattle.writer.proofs.settle.Tie as tie
 
-write-requires : tie.Need-write-requires
-write-requires c κs = search needs
+text-octet-requires : tie.Need-text-octet-requires
+text-octet-requires c κs = search needs
 
 enum-known-octet : tie.Need-enum-known-octet
 enum-known-octet c = search needs
@@ -29,7 +29,7 @@ returns c =
     let told = held .before .before in
     let asked = told .before .before in
     let a = asked .before .args in
-    c .held-settled .ensures ∙ ap₂ (settledBy (a .service)) (sym (told .octet .given .1) ∙ asked .write .ensures) (held .holds .ensures)
+    c .held-settled .ensures ∙ ap₂ (settledBy (a .service)) (sym (told .octet .given .1) ∙ asked .text-octet .ensures) (held .holds .ensures)
 
 returns-2 : tie.Need-returns-2
 unfolding settledAs
@@ -37,13 +37,13 @@ returns-2 c =
     let told = c .before in
     let asked = told .before .before in
     let a = asked .before .args in
-    ap (λ (w : OctetWritten). settledBy (a .service) w (holdsText (a .service) (a .reading))) (sym (told .refusal .given .1) ∙ asked .write .ensures)
+    ap (λ (w : OctetWritten). settledBy (a .service) w (holdsText (a .service) (a .reading))) (sym (told .refusal .given .1) ∙ asked .text-octet .ensures)
 
 pub settle-spec : {M : Type 1} → statement M
 settle-spec =
     tie.close
     (tie.spec
-    write-requires
+    text-octet-requires
     enum-known-octet
     holds-requires
     held-settled-requires

@@ -4,7 +4,8 @@ use Rattle.writer.proofs.Settling.{plain-settled}
 use Rattle.coding.specs.declared.OctetWritten.{OctetWritten}
 use Rattle.coding.specs.Holding.{holdsText}
 use Rattle.coding.specs.Readings.{plainIn}
-use mathlib.Core.Path.{ap, sym, _∙_}
+use Rattle.coding.proofs.TextOctet.{letterless-coding}
+use mathlib.Core.Path.{refl, ap, sym, _∙_}
 use borrow.Author.Needs.{needs}
 use Rattle.writer.proofs.settle_plain.Statement.{statement}
 use Rattle.writer.proofs.settle_plain.Tie as tie
@@ -24,7 +25,7 @@ returns c =
     let told = c .before in
     let asked = told .before .before in
     let a = asked .before .args in
-    plain-settled (a .service) (a .ucs2) _ ∙ ap (λ (w : OctetWritten). settledBy (a .service) w (holdsText (a .service) (plainIn (a .ucs2)))) (sym (told .octet .given .1) ∙ asked .plain-octet .ensures)
+    plain-settled (a .service) (a .ucs2) _ ∙ ap (λ (w : OctetWritten). settledBy (a .service) w (holdsText (a .service) (plainIn (a .ucs2)))) (sym (told .octet .given .1) ∙ asked .plain-octet .ensures ∙ sym (letterless-coding (a .service) (plainIn (a .ucs2)) refl))
 
 returns-2 : tie.Need-returns-2
 unfolding settledAs
@@ -32,7 +33,7 @@ returns-2 c =
     let told = c .before in
     let asked = told .before .before in
     let a = asked .before .args in
-    ap (λ (w : OctetWritten). settledBy (a .service) w (holdsText (a .service) (plainIn (a .ucs2)))) (sym (told .refusal .given .1) ∙ asked .plain-octet .ensures)
+    ap (λ (w : OctetWritten). settledBy (a .service) w (holdsText (a .service) (plainIn (a .ucs2)))) (sym (told .refusal .given .1) ∙ asked .plain-octet .ensures ∙ sym (letterless-coding (a .service) (plainIn (a .ucs2)) refl))
 
 pub settle-plain-spec : {M : Type 1} → statement M
 settle-plain-spec =
