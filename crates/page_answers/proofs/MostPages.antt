@@ -15,7 +15,7 @@ use Rattle.words.proofs.Judging.{accepted-rule, accepted-parts}
 use Rattle.lists.proofs.Bits.{bits-number}
 use Rattle.coding.specs.declared.Reading.{Reading}
 use Rattle.coding.specs.Holding.{isUcs2, textRules}
-use Rattle.coding.specs.OctetWritten.{writeRules as codingRules}
+use Rattle.coding.specs.LanguageLetters.{codingRules}
 use Rattle.letters.specs.Writing.{firstUnlisted}
 use Rattle.demands.specs.MessageWritten.{notCodable}
 use Rattle.pages.specs.declared.Counted.the-variants as counted

@@ -25,9 +25,11 @@ use Rattle.words.proofs.Judging.{accepted-rule, accepted-parts, accepted-both, 
 use Rattle.coding.specs.declared.Reading.{Reading}
 use Rattle.coding.specs.declared.OctetWritten.the-variants as octet-written
 use Rattle.coding.specs.OctetRead.{readUnder}
-use Rattle.coding.specs.OctetWritten.{smallest, octetWrites, writeRules as codingRules}
+use Rattle.coding.specs.OctetWritten.{smallest}
+use Rattle.coding.specs.LanguageLetters.{codingRules, codingWrites}
 use Rattle.coding.specs.Holding.{isUcs2, textRules}
-use Rattle.coding.proofs.Theorems.{settled, write-read, write-complete}
+use Rattle.coding.proofs.TextOctet.{coding-written, coding-read, coding-complete}
+use Rattle.coding.proofs.Theorems.{settled}
 use Rattle.letters.specs.Writing.{firstUnlisted}
 use Rattle.demands.specs.MessageWritten.{notCodable}
 use Rattle.demands.proofs.Accepting.{text-accepts, text-accepted}
@@ -78,9 +80,9 @@ join-verdict o room a e =
 -- the coding octet that is written reads as the reading
 pub coding-back : (r : Reading) (t : List ℕ) → PagesWritable r t → (smallest Broadcast r < 256) × (readUnder Broadcast (smallest Broadcast r) ≡ r)
 coding-back r t w =
-    let k = write-complete Broadcast r (w .octet .0) refl (w .plain) (w .octet .1 .0) (w .octet .1 .1) in
-    let s = settled Broadcast r (k .0) (k .1) in
-    (subst (λ (o : ℕ). o < 256) (sym (s .first)) (s .within), ap (readUnder Broadcast) (s .first) ∙ read-given Broadcast (k .0) r (sym (write-read Broadcast r (k .0) (k .1))))
+    let k = coding-complete Broadcast r (w .octet .0) refl (w .plain) (w .octet .1 .0) (w .octet .1 .1) in
+    let s = settled Broadcast r (k .0) (coding-written Broadcast r (k .0) (k .1) .1) in
+    (subst (λ (o : ℕ). o < 256) (sym (s .first)) (s .within), ap (readUnder Broadcast) (s .first) ∙ read-given Broadcast (k .0) r (sym (coding-read Broadcast r (k .0) (w .holds .unmarked) (k .1))))
 
 module _ (r : Reading) (t : List ℕ) where
   size-accepts : PagesWritable r t → verdict (sizeRules (isUcs2 (r .alphabet)) t) ≡ accepted
@@ -90,23 +92,24 @@ module _ (r : Reading) (t : List ℕ) where
   rules-accept : PagesWritable r t → verdict (countRules r t) ≡ accepted
   unfolding countRules
   rules-accept w =
-      let k = write-complete Broadcast r (w .octet .0) refl (w .plain) (w .octet .1 .0) (w .octet .1 .1) in
+      let k = coding-complete Broadcast r (w .octet .0) refl (w .plain) (w .octet .1 .0) (w .octet .1 .1) in
       accepted-both (codingRules Broadcast r) (textRules Broadcast r ++ sizeRules (isUcs2 (r .alphabet)) t) (coding-verdict Broadcast r (octet-written.Done (k .0)) (sym (k .1)))
       (accepted-both (textRules Broadcast r) (sizeRules (isUcs2 (r .alphabet)) t) (text-accepts Broadcast r (w .holds)) (size-accepts w))
 
   rules-accepted : verdict (countRules r t) ≡ accepted → PagesWritable r t
-  unfolding countRules sizeRules octetWrites
+  unfolding countRules sizeRules codingWrites
   rules-accepted e =
       let v = accepted-parts (codingRules Broadcast r) (textRules Broadcast r ++ sizeRules (isUcs2 (r .alphabet)) t) e in
       let w = accepted-parts (textRules Broadcast r) (sizeRules (isUcs2 (r .alphabet)) t) (v .1) in
-      let o : octetWrites Broadcast r ≡ octet-written.Done (smallest Broadcast r) = settle-given (verdict (codingRules Broadcast r)) octet-written.Refused (octet-written.Done (smallest Broadcast r)) (v .0) in
-      let s = settled Broadcast r (smallest Broadcast r) o in
+      let o : codingWrites Broadcast r ≡ octet-written.Done (smallest Broadcast r) = settle-given (verdict (codingRules Broadcast r)) octet-written.Refused (octet-written.Done (smallest Broadcast r)) (v .0) in
+      let s = settled Broadcast r (smallest Broadcast r) (coding-written Broadcast r (smallest Broadcast r) o .1) in
+      let h = text-accepted Broadcast r (w .0) in
       let six = accepted-rule (notCodable (isUcs2 (r .alphabet)) t) (Unlisted (firstUnlisted t)) (when (ltb mostPages (readingPages r t)) TooLong ∷ []) (w .1) in
       let five = accepted-rule (ltb mostPages (readingPages r t)) TooLong [] (six .1) in
       record {
         plain = s .plain;
-        octet = (smallest Broadcast r, (s .within, write-read Broadcast r (smallest Broadcast r) o));
-        holds = text-accepted Broadcast r (w .0);
+        octet = (smallest Broadcast r, (s .within, coding-read Broadcast r (smallest Broadcast r) (h .unmarked) o));
+        holds = h;
         codable = six .0;
         sized = ltb-false _ _ (five .0);
       }

@@ -9,18 +9,14 @@
 --   closed-text          without closing CRs it reads as the text without closing CRs
 --   closed-content       texts that are the same without closing CRs have contents that are so too
 use mathlib.Core.Path.{_≡_, refl, sym, ap, ap₂, _∙_}
-use mathlib.Core.Bool.{Bool, true, false, cond}
+use mathlib.Core.Bool.{Bool, true, false}
 use mathlib.Core.List.{List, _++_}
 use Prim.Native.Nat.{ℕ, zero, suc, _+_, _-_, _*_, _≤_}
 use native.Mathlib.Omega.{arith}
 use lib.ListN.{length, drop, replicate}
-use borrow.Author.Tests.{ltb-false}
 use Rattle.lists.specs.Lists.{laid}
-use Rattle.lists.specs.Closing.{withoutClosing}
 use Rattle.lists.proofs.Below.{Below, below-take, below-drop}
-use Rattle.letters.specs.Writing.{septetsOf}
-use Rattle.letters.specs.Reading.{textOf}
-use Rattle.letters.proofs.Theorems.{Codable, septets-below, text-septets}
+use Rattle.letters.proofs.Theorems.{septets-below}
 use Rattle.stream.specs.Stream.{packed, unpacked}
 use Rattle.stream.specs.UssdPacking.{cr}
 use Rattle.stream.specs.Pages.{page, pageOctets}
@@ -28,8 +24,7 @@ use Rattle.stream.specs.Ucs2.{unitOctets, unitPage}
 use Rattle.stream.proofs.Stream.{unpacked-packed}
 use Rattle.stream.proofs.UnitOctets.{octet-units-unit-octets}
 use Rattle.stream.proofs.Pages.{replicate-drop, over-length, page-length, page-below}
-use Rattle.demands.specs.MessageWritten.{notCodable}
-use Rattle.demands.proofs.Texts.{codable-told, codable-closed, closing-septets}
+pub use Rattle.lettered.proofs.Texts.{closed-text, closed-content}
 use Rattle.pages.specs.Blocks.{textIn}
 use Rattle.pages.specs.Parts.{pageRoom, contentOf, partAt, pageText}
 use Rattle.pages.specs.Joined.{blockAt, placeOf, pageContent, joinedFrom}
@@ -82,16 +77,3 @@ module _ (ucs2 : Bool) (content : List ℕ) (n : ℕ) (o : List ℕ) (p : Placed
 pub content-below : (ucs2 : Bool) (t : List ℕ) → ucs2 ≡ false → Below 128 (contentOf ucs2 t)
 content-below true t e = let z : _≡_ {A = ℕ} 0 1 = cc in absurd (omega arith)
 content-below false t e = septets-below t
-
-codable : (t : List ℕ) → notCodable false t ≡ false → Codable t
-codable t e = codable-told t (ltb-false _ _ e)
-
-pub closed-text : (ucs2 : Bool) (t : List ℕ) → notCodable ucs2 t ≡ false
-    → cond ucs2 (withoutClosing cr (contentOf ucs2 t)) (textOf (withoutClosing cr (contentOf ucs2 t))) ≡ withoutClosing 0x000d t
-closed-text true t e = refl
-closed-text false t e = ap textOf (closing-septets t (codable t e)) ∙ text-septets (withoutClosing 0x000d t) (codable-closed t (codable t e))
-
-pub closed-content : (ucs2 : Bool) (t u : List ℕ) → notCodable ucs2 t ≡ false → notCodable ucs2 u ≡ false → withoutClosing 0x000d t ≡ withoutClosing 0x000d u
-    → withoutClosing cr (contentOf ucs2 t) ≡ withoutClosing cr (contentOf ucs2 u)
-closed-content true t u c d e = e
-closed-content false t u c d e = closing-septets t (codable t c) ∙ ap septetsOf e ∙ sym (closing-septets u (codable u d))

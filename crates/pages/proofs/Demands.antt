@@ -34,6 +34,7 @@ use Rattle.stream.proofs.Pages.{over-closing, over-same}
 use Rattle.demands.specs.MessageWritten.{overSize, textOctets, messageOctets}
 use Rattle.demands.specs.Reports.{writeNumber}
 use Rattle.demands.specs.Demands.{HoldsText, Writable, Accepted, sent}
+use Rattle.demands.proofs.Unlettered.{octets-same}
 use Rattle.demands.proofs.Accepting.{write-accepts as message-accepts}
 use Rattle.demands.proofs.Demands.{take-laid, sent-octets}
 use Rattle.pages.specs.declared.Header.{Header}
@@ -234,6 +235,10 @@ module _ (sequence identifier : ℕ) (r : Reading) (t out : List ℕ) (a : Sends
       let size : length (readingContent r t) ≤ room * 1 = subst (λ (k : ℕ). length (readingContent r t) ≤ room * k) one (pages-hold room (length (readingContent r t)) (sent-writable sequence identifier r t out a .sized)) in
       omega arith
 
+  -- what is written as pages has no prefix mark, so as one page it has no letters in front
+  plain-octets : messageOctets Broadcast r t ≡ textOctets Broadcast (isUcs2 (r .alphabet)) t
+  plain-octets = octets-same Broadcast r (sent-writable sequence identifier r t out a .holds .unmarked) t
+
   pub one-page : readingPages r t ≡ 1 → drop 6 (sentBlocks sequence identifier r t out) ≡ messageOctets Broadcast r t
   unfolding blocksAs blocksFrom blockOf partAt
   one-page one =
@@ -244,13 +249,14 @@ module _ (sequence identifier : ℕ) (r : Reading) (t out : List ℕ) (a : Sends
       ∙ append-nil (pageText ucs2 (partAt (pageRoom ucs2) (readingContent r t) 1))
       ∙ ap (pageText ucs2) whole
       ∙ one-page-octets ucs2 t
+      ∙ sym plain-octets
 
   -- the base's writer accepts such a text, in any buffer of 82 octets or more
   one-page-writable : readingPages r t ≡ 1 → (room : ℕ) → 82 ≤ room → Writable Broadcast r t room
   one-page-writable one room h =
       let ucs2 : Bool = isUcs2 (r .alphabet) in
       let w = sent-writable sequence identifier r t out a in
-      let long : length (messageOctets Broadcast r t) ≡ 82 = ap length (sym (one-page-octets ucs2 t)) ∙ page-text-length ucs2 (readingContent r t) (one-page-fits one) in
+      let long : length (messageOctets Broadcast r t) ≡ 82 = ap length (plain-octets ∙ sym (one-page-octets ucs2 t)) ∙ page-text-length ucs2 (readingContent r t) (one-page-fits one) in
       record {
         new = refl;
         plain = w .plain;
@@ -265,4 +271,4 @@ module _ (sequence identifier : ℕ) (r : Reading) (t out : List ℕ) (a : Sends
   one-page-accepted one lent h = ap writeNumber (message-accepts Broadcast r t lent (one-page-writable one (length lent) h) .0)
 
   pub one-page-sent : readingPages r t ≡ 1 → (lent : List ℕ) → Accepted Broadcast r t lent → drop 6 (sentBlocks sequence identifier r t out) ≡ sent Broadcast r t lent
-  one-page-sent one lent b = one-page one ∙ sym (sent-octets Broadcast r t lent b)
+  one-page-sent one lent b = one-page one ∙ sym (sent-octets Broadcast r t lent (sent-writable sequence identifier r t out a .holds .unmarked) b)

@@ -13,7 +13,9 @@ use Rattle.lists.proofs.Tests.{both}
 use Rattle.coding.specs.declared.Reading.{Reading}
 use Rattle.coding.specs.Readings.{unmentioned, reservedReading, plainIn, withCompressed}
 use Rattle.coding.specs.OctetRead.{classIn, generalReading, lastReading, readPage}
-use Rattle.coding.specs.OctetWritten.{smallest, writeRules as codingRules}
+use Rattle.coding.specs.OctetWritten.{smallest, writeRules as aloneRules}
+use Rattle.coding.specs.LanguageLetters.{codingRules}
+use Rattle.fields.specs.Letters.{anyLetter}
 use Rattle.coding.specs.Holding.{textRules}
 use Rattle.letters.specs.Tables.{mainTable, extension, among, beside}
 use Rattle.letters.specs.Writing.{septetsIn, listedIn}
@@ -115,5 +117,5 @@ cases =
     ∷ []
 
 pub cases-hold : T (allHold cases)
-unfolding allHold holds cases block ucs2 euro closing chinese verdict countAnswers countRules builtAs buildRules pagesAnswers pagesRules blockAs blocksAs blocksFrom blockOf headerOf partAt pageOctets page laid packed unpacked streamBit cut octetsFor unitOctets unitPage octetUnits codingRules textRules sizeRules smallest firstPlace numbersFrom readPage bitsOf gather bitOf generalReading lastReading classIn septetsIn listedIn among beside mainTable extension unitIn textIn afterEscapeIn escapedIn pagesHolding withoutClosing beforeKept blockAt headerAt placeOf missing repeated misnumbered ofOneMessage differing wrongPages joinedFrom joinedContent pageRules joinRules joinAnswers joinLeaves
+unfolding allHold holds cases block ucs2 euro closing chinese verdict countAnswers countRules builtAs buildRules pagesAnswers pagesRules blockAs blocksAs blocksFrom blockOf headerOf partAt pageOctets page laid packed unpacked streamBit cut octetsFor unitOctets unitPage octetUnits codingRules aloneRules anyLetter textRules sizeRules smallest firstPlace numbersFrom readPage bitsOf gather bitOf generalReading lastReading classIn septetsIn listedIn among beside mainTable extension unitIn textIn afterEscapeIn escapedIn pagesHolding withoutClosing beforeKept blockAt headerAt placeOf missing repeated misnumbered ofOneMessage differing wrongPages joinedFrom joinedContent pageRules joinRules joinAnswers joinLeaves
 cases-hold = tt

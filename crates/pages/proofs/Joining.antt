@@ -27,7 +27,7 @@ use Rattle.stream.specs.Stream.{unpacked}
 use Rattle.stream.specs.Ucs2.{octetUnits}
 use Rattle.stream.specs.ArrayCalls.{allRules, allLeaves}
 use Rattle.stream.specs.Digits.{value}
-use Rattle.stream.specs.Inner.{givenAnswers, givenLeaves}
+use Rattle.stream.specs.Storing.{givenAnswers, givenLeaves}
 use Rattle.stream.proofs.Numbers.{digits-below, group-within}
 use Rattle.stream.proofs.Stream.{unpacked-length, unpacked-digits}
 use Rattle.stream.proofs.UnitOctets.{octet-units-length}

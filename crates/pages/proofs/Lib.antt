@@ -11,3 +11,4 @@ pub mod Demands
 pub mod Refusing
 pub mod Examples
 pub mod Rooms
+pub mod Prefixed

@@ -16,7 +16,8 @@ use Rattle.words.specs.Refusals.{numberOf, positionOf}
 use Rattle.words.specs.Judging.{Rule, when, Verdict, refused, verdict, settle}
 use Rattle.coding.specs.declared.Reading.{Reading}
 use Rattle.coding.specs.Readings.{unmentioned}
-use Rattle.coding.specs.OctetWritten.{writeRules as codingRules}
+use Rattle.coding.specs.OctetWritten.{writeRules as aloneRules}
+use Rattle.coding.specs.LanguageLetters.{codingRules}
 use Rattle.coding.specs.Holding.{textRules}
 use Rattle.pages.specs.declared.Counted.the-variants as counted
 use Rattle.pages.specs.declared.PagesWritten.the-variants as written
@@ -52,7 +53,7 @@ pub count-refuses : (r : Reading) (t : List ℕ) (q : Refusal) → countAnswers 
     × (countedPosition (countAnswers r t) ≡ positionOf q)
     × (countedPages (countAnswers r t) ≡ 0)
     × T (oneOf (numberOf q) countNumbers)
-unfolding eachOf countRules codingRules textRules sizeRules
+unfolding eachOf countRules codingRules aloneRules textRules sizeRules
 count-refuses r t q e = (
   ap countedNumber e,
   ap countedPosition e,
@@ -66,7 +67,7 @@ pub build-refuses : (sequence identifier : ℕ) (r : Reading) (t : List ℕ) (k 
     × (countedPages (builtAs sequence identifier r t k .answer) ≡ 0)
     × (builtAs sequence identifier r t k .block ≡ replicate 88 0)
     × T (oneOf (numberOf q) buildNumbers)
-unfolding builtAs eachOf buildRules countRules codingRules textRules sizeRules
+unfolding builtAs eachOf buildRules countRules codingRules aloneRules textRules sizeRules
 build-refuses sequence identifier r t k q e =
     let v = build-verdict sequence identifier r t k (counted.Refused q) (sym e) in
     (ap countedNumber e, ap countedPosition e, ap countedPages e, kept (verdict (buildRules r t k)) q (replicate 88 0) _ v, given (buildRules r t k) buildNumbers q tt v)
@@ -78,7 +79,7 @@ pub write-refuses : (sequence identifier : ℕ) (r : Reading) (t out : List ℕ)
     × (pagesPages (pagesAnswers sequence identifier r t (length out)) ≡ 0)
     × (pagesLeaves sequence identifier r t out ≡ out)
     × T (oneOf (numberOf q) writeNumbers)
-unfolding pagesLeaves eachOf pagesRules countRules codingRules textRules sizeRules
+unfolding pagesLeaves eachOf pagesRules countRules codingRules aloneRules textRules sizeRules
 write-refuses sequence identifier r t out q e =
     let v = write-verdict sequence identifier r t (length out) (written.Refused q) (sym e) in (
       ap pagesNumber e,

@@ -26,7 +26,7 @@ use Rattle.words.proofs.Judging.{verdict-refused-first, verdict-accepted-first,
 use Rattle.coding.specs.declared.Reading.{Reading}
 use Rattle.coding.specs.declared.Held.the-variants as held
 use Rattle.coding.specs.declared.OctetWritten.the-variants as octet-written
-use Rattle.coding.specs.OctetWritten.{octetWrites, writeRules as codingRules}
+use Rattle.coding.specs.LanguageLetters.{codingRules, codingWrites}
 use Rattle.coding.specs.Holding.{textRules, holdsText}
 use Rattle.letters.specs.declared.Encoded.{Encoded}
 use Rattle.letters.specs.declared.Measured.{Measured}
@@ -93,19 +93,19 @@ sized-unlisted units h = simp (lt-ltb (firstUnlisted units) (length units) h)
 -- ---- what stands behind 8, 1, 2, 3
 
 module _ (service : Service) (r : Reading) (rest : List Rule) where
-  pub chosen-text : (coding : ℕ) (ucs2 : Bool) → octet-written.Done coding ≡ octetWrites service r → heldAs ucs2 ≡ holdsText service r
+  pub chosen-text : (coding : ℕ) (ucs2 : Bool) → octet-written.Done coding ≡ codingWrites service r → heldAs ucs2 ≡ holdsText service r
       → verdict (codingRules service r ++ (textRules service r ++ rest)) ≡ verdict rest
   chosen-text coding ucs2 e h =
       verdict-accepted-first (codingRules service r) (textRules service r ++ rest) (coding-verdict service r (octet-written.Done coding) e)
       ∙ verdict-accepted-first (textRules service r) rest (held-verdict service r (heldAs ucs2) h ∙ told-text ucs2)
 
-  pub chosen-none : (coding : ℕ) (q : Refusal) → octet-written.Done coding ≡ octetWrites service r → held.Refused q ≡ holdsText service r
+  pub chosen-none : (coding : ℕ) (q : Refusal) → octet-written.Done coding ≡ codingWrites service r → held.Refused q ≡ holdsText service r
       → verdict (codingRules service r ++ (textRules service r ++ rest)) ≡ refused q
   chosen-none coding q e h =
       verdict-accepted-first (codingRules service r) (textRules service r ++ rest) (coding-verdict service r (octet-written.Done coding) e)
       ∙ verdict-refused-first (textRules service r) rest q (held-verdict service r (held.Refused q) h)
 
-  pub chosen-refused : (q : Refusal) → octet-written.Refused q ≡ octetWrites service r → verdict (codingRules service r ++ (textRules service r ++ rest)) ≡ refused q
+  pub chosen-refused : (q : Refusal) → octet-written.Refused q ≡ codingWrites service r → verdict (codingRules service r ++ (textRules service r ++ rest)) ≡ refused q
   chosen-refused q e = verdict-refused-first (codingRules service r) (textRules service r ++ rest) q (coding-verdict service r (octet-written.Refused q) e)
 
 -- ---- a text as it is measured and encoded

@@ -18,7 +18,8 @@ use Rattle.words.specs.declared.Refusal.the-variants.{Unlisted, TooLong, NoRoom
 use Rattle.words.specs.Judging.{Rule, when, verdict, settle}
 use Rattle.lists.specs.Lists.{laid}
 use Rattle.coding.specs.declared.Reading.{Reading}
-use Rattle.coding.specs.OctetWritten.{smallest, writeRules as codingRules}
+use Rattle.coding.specs.OctetWritten.{smallest}
+use Rattle.coding.specs.LanguageLetters.{codingRules}
 use Rattle.coding.specs.Holding.{isUcs2, textRules}
 use Rattle.letters.specs.Writing.{firstUnlisted}
 use Rattle.demands.specs.MessageWritten.{notCodable}

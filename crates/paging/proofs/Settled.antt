@@ -18,7 +18,8 @@ use Rattle.coding.specs.declared.Held.{Held}
 use Rattle.coding.specs.declared.Held.the-variants as held
 use Rattle.coding.specs.declared.OctetWritten.{OctetWritten}
 use Rattle.coding.specs.declared.OctetWritten.the-variants as octet-written
-use Rattle.coding.specs.OctetWritten.{smallest, octetWrites, writeRules as codingRules}
+use Rattle.coding.specs.OctetWritten.{smallest}
+use Rattle.coding.specs.LanguageLetters.{codingRules, codingWrites}
 use Rattle.coding.specs.Holding.{isUcs2, textRules, holdsText}
 use Rattle.demands.proofs.Steps.{written-given, holds-text}
 use Rattle.pages.specs.declared.Counted.the-variants as counted
@@ -44,9 +45,9 @@ Chosen r (settled.Refused q) = (rest : List Rule) → front r rest ≡ refused q
 
 chosen : (r : Reading) (s : Settled) → s ≡ settledAs Broadcast r → Chosen r s
 unfolding settledAs
-chosen r s e = subst (Chosen r) (sym e) (go (octetWrites Broadcast r) refl (holdsText Broadcast r) refl)
+chosen r s e = subst (Chosen r) (sym e) (go (codingWrites Broadcast r) refl (holdsText Broadcast r) refl)
   where
-    go : (w : OctetWritten) → w ≡ octetWrites Broadcast r → (h : Held) → h ≡ holdsText Broadcast r → Chosen r (settledBy Broadcast w h)
+    go : (w : OctetWritten) → w ≡ codingWrites Broadcast r → (h : Held) → h ≡ holdsText Broadcast r → Chosen r (settledBy Broadcast w h)
     go (octet-written.Done coding) e held.Septets f = (λ rest. chosen-text Broadcast r rest coding false e f, written-given Broadcast r coding e, holds-text Broadcast r false f)
     go (octet-written.Done coding) e held.Units f = (λ rest. chosen-text Broadcast r rest coding true e f, written-given Broadcast r coding e, holds-text Broadcast r true f)
     go (octet-written.Done coding) e (held.Refused q) f = λ rest. chosen-none Broadcast r rest coding q e f
