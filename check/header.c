@@ -29,7 +29,7 @@ static const struct {
     NAMED(WIKUAY_REFUSED_NO_TABLE),
     NAMED(WIKUAY_REFUSED_ILL_FORMED),
 };
-enum { KNOWN = sizeof refusals / sizeof refusals[0], GIVEN = 10 };
+enum { KNOWN = sizeof refusals / sizeof refusals[0], GIVEN = 11 };
 
 static int differ(const char *what, const char *got, const char *expected) {
   if (strcmp(got, expected) == 0) return 0;
@@ -51,7 +51,16 @@ int main(void) {
 #if WIKUAY_PAGES_UNITS != WIKUAY_MOST_PAGES * WIKUAY_BROADCAST_SEPTETS
 #error "WIKUAY_PAGES_UNITS is wrong"
 #endif
+  /* The letters and their CR take three septets, and the place of one unit. */
+#if WIKUAY_LETTERED_SEPTETS != WIKUAY_BROADCAST_SEPTETS - 3 || WIKUAY_LETTERED_UNITS != WIKUAY_BROADCAST_UNITS - 1
+#error "what a page holds behind language letters is wrong"
+#endif
   if (sizeof(wikuay_block) != WIKUAY_BLOCK_OCTETS) faults += differ("a block", "padded", "88 octets");
+  if (sizeof(wikuay_reading) != 12 || offsetof(wikuay_reading, notice) != 8 ||
+      offsetof(wikuay_reading, first_letter) != 10 || offsetof(wikuay_reading, second_letter) != 11)
+    faults += differ("a reading", "laid out otherwise", "12 octets, the letters in the last two");
+  if (wikuay_plain().first_letter != 0 || wikuay_plain().second_letter != 0)
+    faults += differ("the plain reading", "with letters", "without");
   for (uint32_t n = 0; n < KNOWN; n++) {
     if (refusals[n].number != n) faults += differ("the order of the constants", refusals[n].name, "another");
     faults += differ("name", wikuay_refusal_name(n), refusals[n].name);

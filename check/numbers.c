@@ -3,9 +3,9 @@
  *
  * The vectors name services and fields by words, so that they cannot ask what a number does that names nothing. Here
  * every service number of a wide range, and every number of every field, is handed to every call that takes one. So is
- * every sequence number and message identifier, every page parameter, and page numbers of a wide range. The version of
- * the library must be that of the header. It prints how many answers were judged and how many are wrong; the exit
- * status is 1 if one is. C99 and C++11.
+ * every pair of language letters, every sequence number and message identifier, every page parameter, and page numbers
+ * of a wide range. The version of the library must be that of the header. It prints how many answers were judged and
+ * how many are wrong; the exit status is 1 if one is. C99 and C++11.
  */
 #include <stdio.h>
 #include <string.h>
@@ -24,18 +24,21 @@ static void judge(int right, const char *what, unsigned long number) {
 static int same(wikuay_reading a, wikuay_reading b) {
   return a.alphabet == b.alphabet && a.compressed == b.compressed && a.message_class == b.message_class &&
          a.language == b.language && a.deletion == b.deletion && a.prefix == b.prefix && a.reserved == b.reserved &&
-         a.notice == b.notice;
+         a.notice == b.notice && a.first_letter == b.first_letter && a.second_letter == b.second_letter;
 }
 
-/* The answer is refusal 8 and reports nothing. */
-static int is_8(wikuay_answer a) {
-  return a.refusal == WIKUAY_REFUSED_UNWRITABLE && a.count == 0 && a.position == 0 && a.written == 0 && a.coding == 0;
+/* The answer is this refusal and reports nothing. */
+static int refused(wikuay_answer a, uint32_t refusal) {
+  return a.refusal == refusal && a.count == 0 && a.position == 0 && a.written == 0 && a.coding == 0;
 }
 
-static int read_is_8(wikuay_read_answer a) {
-  return a.refusal == WIKUAY_REFUSED_UNWRITABLE && a.position == 0 && a.written == 0 && a.holds == 0 &&
-         same(a.reading, wikuay_plain());
+static int read_refused(wikuay_read_answer a, uint32_t refusal) {
+  return a.refusal == refusal && a.position == 0 && a.written == 0 && a.holds == 0 && same(a.reading, wikuay_plain());
 }
+
+static int is_8(wikuay_answer a) { return refused(a, WIKUAY_REFUSED_UNWRITABLE); }
+
+static int read_is_8(wikuay_read_answer a) { return read_refused(a, WIKUAY_REFUSED_UNWRITABLE); }
 
 /* The same of the calls with pages: a refusal with this number. */
 static int pages_refused(wikuay_pages_answer a, uint32_t refusal) {
@@ -108,6 +111,90 @@ static void field(wikuay_reading reading, int named, const char *what, unsigned 
   judge(pages_refused(wikuay_write_pages(1, 2, reading, text, 1, octets, sizeof octets), WIKUAY_REFUSED_UNWRITABLE) &&
             all_are(octets, sizeof octets, 0xA5),
         what, number);
+}
+
+/* Data coding writes past language letters, and reads none. */
+static void coding_with_letters(wikuay_reading reading, unsigned long number) {
+  wikuay_reading without = reading;
+  wikuay_read_answer told = wikuay_holds_text(reading);
+  uint32_t service;
+  without.first_letter = without.second_letter = 0;
+  judge(told.refusal == wikuay_holds_text(without).refusal && told.holds == wikuay_holds_text(without).holds &&
+            told.refusal == (reading.prefix ? WIKUAY_REFUSED_PREFIXED : 0u) && same(told.reading, wikuay_plain()),
+        "wikuay_holds_text, letters", number);
+  for (service = WIKUAY_SHORT_MESSAGE; service <= WIKUAY_OLD_PAGE; service++) {
+    wikuay_answer a = wikuay_write_coding(service, reading), b = wikuay_write_coding(service, without);
+    judge(a.refusal == b.refusal && a.coding == b.coding, "wikuay_write_coding, letters", number);
+    if (a.refusal == 0)
+      judge(same(wikuay_read_coding(service, a.coding).reading, without), "wikuay_read_coding, letters", number);
+  }
+}
+
+/* The calls with pages, and one message under this service, refuse the reading. */
+static void text_refused(uint32_t service, wikuay_reading reading, uint32_t refusal, unsigned long number) {
+  static const uint16_t text[] = {0x0041};
+  uint8_t octets[WIKUAY_MOST_OCTETS];
+  memset(octets, 0xA5, sizeof octets);
+  judge(refused(wikuay_write_message(service, reading, text, 1, octets, sizeof octets), refusal),
+        "wikuay_write_message, letters", number);
+  judge(pages_refused(wikuay_count_pages(reading, text, 1), refusal), "wikuay_count_pages, letters", number);
+  judge(page_refused(wikuay_build_page(1, 2, reading, text, 1, 1), refusal), "wikuay_build_page, letters", number);
+  judge(pages_refused(wikuay_write_pages(1, 2, reading, text, 1, octets, sizeof octets), refusal),
+        "wikuay_write_pages, letters", number);
+  judge(all_are(octets, sizeof octets, 0xA5), "a buffer is touched under letters", number);
+}
+
+/* One broadcast page with the prefix mark: where both letters are a to z it is written, and read as it was given. Where
+   they are not it is refused 11, on reading too. A letter is a septet there. */
+static void lettered_page(wikuay_reading reading, unsigned long number) {
+  static const uint16_t text[] = {0x0041, 0x000D, 0x0042};
+  const uint8_t first = reading.first_letter, second = reading.second_letter;
+  const int right = 'a' <= first && first <= 'z' && 'a' <= second && second <= 'z';
+  uint8_t octets[WIKUAY_BROADCAST_OCTETS];
+  uint16_t units[WIKUAY_LETTERED_SEPTETS];
+  wikuay_reading english = reading;
+  wikuay_answer a;
+  wikuay_read_answer r;
+  memset(octets, 0xA5, sizeof octets);
+  memset(units, 0xA5, sizeof units);
+  a = wikuay_write_message(WIKUAY_BROADCAST, reading, text, 3, octets, sizeof octets);
+  judge(right ? a.refusal == 0 && a.count == 0 && a.written == sizeof octets &&
+                    a.coding == (reading.alphabet == WIKUAY_UCS2 ? 0x11 : 0x10)
+              : refused(a, WIKUAY_REFUSED_WRONG_LETTERS) && all_are(octets, sizeof octets, 0xA5),
+        "wikuay_write_message, lettered page", number);
+  if (127 < first || 127 < second) return;
+  if (!right) {
+    english.first_letter = 'e', english.second_letter = 'n';
+    a = wikuay_write_message(WIKUAY_BROADCAST, english, text, 3, octets, sizeof octets);
+    octets[0] = (uint8_t)(first | (second & 1) << 7);
+    octets[1] = (uint8_t)((octets[1] & 0xC0) | second >> 1);
+  }
+  r = wikuay_read_message(WIKUAY_BROADCAST, a.coding, 0, octets, sizeof octets, units, WIKUAY_LETTERED_SEPTETS);
+  judge(right ? r.refusal == 0 && r.written == 3 && same(r.reading, reading) && memcmp(units, text, sizeof text) == 0 &&
+                    all_are(units + 3, sizeof units - sizeof text, 0xA5)
+              : read_refused(r, WIKUAY_REFUSED_WRONG_LETTERS) && all_are(units, sizeof units, 0xA5),
+        "wikuay_read_message, lettered page", number);
+}
+
+/* Two language letters of any numbers, with the prefix mark and without. */
+static void letters(wikuay_reading reading, unsigned long number) {
+  static const uint16_t text[] = {0x0041};
+  uint8_t octets[WIKUAY_MOST_OCTETS];
+  uint32_t service;
+  reading.first_letter = (uint8_t)(number >> 8);
+  reading.second_letter = (uint8_t)number;
+  coding_with_letters(reading, number);
+  for (service = WIKUAY_SHORT_MESSAGE; service <= WIKUAY_USSD; service++)
+    if (number != 0)
+      text_refused(service, reading, WIKUAY_REFUSED_UNWRITABLE, number);
+    else
+      judge(wikuay_write_message(service, reading, text, 1, octets, sizeof octets).refusal == 0, "no letters", service);
+  reading.prefix = 1;
+  coding_with_letters(reading, number);
+  text_refused(WIKUAY_USSD, reading, WIKUAY_REFUSED_PREFIXED, number);
+  judge(is_8(wikuay_write_message(WIKUAY_SHORT_MESSAGE, reading, text, 1, octets, sizeof octets)),
+        "wikuay_write_message, prefix mark", number);
+  lettered_page(reading, number);
 }
 
 /* Page n of a message of two pages: 1 and 2 are built, and any other is refused 10. */
@@ -236,6 +323,10 @@ int main(void) {
   for (number = 0; number < 65536; number++) {
     r = wikuay_plain(), r.notice = (uint16_t)number;
     field(r, is_notice(number), "notice", number);
+    r = wikuay_plain();
+    letters(r, number);
+    r.alphabet = WIKUAY_UCS2;
+    letters(r, number);
     pair((uint16_t)number, (uint16_t)(65535 - number));
   }
   for (number = 0; number < 300; number++) page_number(number);

@@ -126,8 +126,9 @@ static const name deletion[] = {{"deletion", 1}, {NULL, 0}};
 static const name prefix[] = {{"prefix", 1}, {NULL, 0}};
 static const name reserved[] = {{"reserved", 1}, {NULL, 0}};
 
-/* The fields of a reading in the order of their words, and the number of each without a word. */
-enum { ALPHABET, COMPRESSED, CLASS, LANGUAGE, DELETION, HANDLING, SENSE, KIND, PREFIX, RESERVED, FIELDS };
+/* The fields of a reading in the order of their words, and the number of each without a word. Behind them stand the
+   words of the language letters, which have an octet. */
+enum { ALPHABET, COMPRESSED, CLASS, LANGUAGE, DELETION, HANDLING, SENSE, KIND, PREFIX, RESERVED, FIELDS, LETTERS = 2 };
 static const name *const fields[FIELDS] = {alphabets, compressed, classes, languages, deletion,
                                            handlings, senses,     kinds,   prefix,    reserved};
 
@@ -143,15 +144,35 @@ static const char *word_of(const name *names, uint32_t number) {
   return "?";
 }
 
+static int digit(char c) {
+  if ('0' <= c && c <= '9') return c - '0';
+  if ('A' <= c && c <= 'F') return c - 'A' + 10;
+  return -1;
+}
+
+static const char *const letter_words[LETTERS] = {"letter1:", "letter2:"};
+
+/* The octet of a language letter's word, or 0 where it is none. */
+static uint8_t letter_in(const char *name, const char *word, size_t length) {
+  size_t before = strlen(name);
+  if (length != before + 2 || memcmp(name, word, before) != 0 || digit(word[before]) < 0 || digit(word[before + 1]) < 0)
+    return 0;
+  return (uint8_t)(16 * digit(word[before]) + digit(word[before + 1]));
+}
+
 static int parse_reading(const char *text, wikuay_reading *reading) {
   const name *said[FIELDS] = {NULL, NULL, NULL, NULL, NULL, NULL, NULL, NULL, NULL, NULL};
+  uint8_t letters[LETTERS] = {0, 0};
   int at = 0, parts;
   *reading = wikuay_plain();
   if (strcmp(text, "plain") == 0) return 1;
   for (;;) {
     size_t length = strcspn(text, "+");
     while (at < FIELDS && !(said[at] = find(fields[at], text, length))) at++;
-    if (at++ == FIELDS) return 0;
+    while (FIELDS <= at && at < FIELDS + LETTERS &&
+           !(letters[at - FIELDS] = letter_in(letter_words[at - FIELDS], text, length)))
+      at++;
+    if (at++ == FIELDS + LETTERS) return 0;
     text += length;
     if (*text == 0) break;
     text++;
@@ -166,11 +187,14 @@ static int parse_reading(const char *text, wikuay_reading *reading) {
   reading->prefix = said[PREFIX] != NULL;
   reading->reserved = said[RESERVED] != NULL;
   if (parts) reading->notice = (uint16_t)(said[HANDLING]->number + said[SENSE]->number + said[KIND]->number);
+  reading->first_letter = letters[0];
+  reading->second_letter = letters[1];
   return 1;
 }
 
 static void print_reading(const wikuay_reading *r) {
   const char *said[FIELDS] = {NULL, NULL, NULL, NULL, NULL, NULL, NULL, NULL, NULL, NULL};
+  const uint8_t letters[LETTERS] = {r->first_letter, r->second_letter};
   const char *between = "";
   int at;
   if (r->alphabet != WIKUAY_7BIT) said[ALPHABET] = word_of(alphabets, r->alphabet);
@@ -190,19 +214,19 @@ static void print_reading(const wikuay_reading *r) {
       printf("%s%s", between, said[at]);
       between = "+";
     }
+  for (at = 0; at < LETTERS; at++)
+    if (letters[at]) {
+      printf("%s%s%02X", between, letter_words[at], (unsigned)letters[at]);
+      between = "+";
+    }
   if (!*between) printf("plain");
 }
 
 static int same_reading(const wikuay_reading *a, const wikuay_reading *b) {
   return a->alphabet == b->alphabet && a->compressed == b->compressed && a->message_class == b->message_class &&
          a->language == b->language && a->deletion == b->deletion && a->prefix == b->prefix &&
-         a->reserved == b->reserved && a->notice == b->notice;
-}
-
-static int digit(char c) {
-  if ('0' <= c && c <= '9') return c - '0';
-  if ('A' <= c && c <= 'F') return c - 'A' + 10;
-  return -1;
+         a->reserved == b->reserved && a->notice == b->notice && a->first_letter == b->first_letter &&
+         a->second_letter == b->second_letter;
 }
 
 static int parse_number(const char *text, uint32_t most, uint32_t *number) {

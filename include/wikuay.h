@@ -45,21 +45,21 @@ extern "C" {
 #define WIKUAY_OLD_PAGE 3 /* the broadcast page of 1991, which is read only */
 
 /* Refusals. The numbers are permanent. */
-#define WIKUAY_REFUSED_COMPRESSED 1   /* compressed text */
-#define WIKUAY_REFUSED_NO_TEXT 2      /* the coding holds no text: 8-bit, WAP, an old page's alphabet not 0 */
-#define WIKUAY_REFUSED_PREFIXED 3     /* the coding has the prefix mark */
-#define WIKUAY_REFUSED_WRONG_LENGTH 4 /* octets do not fit the service or the count, or are not whole blocks or units */
-#define WIKUAY_REFUSED_TOO_LONG 5     /* text over the service's size, or over 15 pages */
-#define WIKUAY_REFUSED_UNLISTED 6     /* a unit is not in the alphabet; position: the first such unit */
-#define WIKUAY_REFUSED_NO_ROOM 7      /* the lent buffer is shorter than the result */
-#define WIKUAY_REFUSED_UNWRITABLE 8   /* the reading cannot be written under the service; a number names nothing */
-#define WIKUAY_REFUSED_NO_SEPTET 9    /* a given septet is 128 or more; position: the first such septet */
-#define WIKUAY_REFUSED_WRONG_PAGES 10 /* pages or parts that are not those of one message; a page that it lacks */
+#define WIKUAY_REFUSED_COMPRESSED 1     /* compressed text */
+#define WIKUAY_REFUSED_NO_TEXT 2        /* the coding holds no text: 8-bit, WAP, an old page's alphabet not 0 */
+#define WIKUAY_REFUSED_PREFIXED 3       /* the coding has the prefix mark, and this is not one broadcast page */
+#define WIKUAY_REFUSED_WRONG_LENGTH 4   /* octets do not fit the service or count, or are not whole blocks or units */
+#define WIKUAY_REFUSED_TOO_LONG 5       /* text over the size of the service or behind letters, or over 15 pages */
+#define WIKUAY_REFUSED_UNLISTED 6       /* a unit is not in the alphabet; position: the first such unit */
+#define WIKUAY_REFUSED_NO_ROOM 7        /* the lent buffer is shorter than the result */
+#define WIKUAY_REFUSED_UNWRITABLE 8     /* the reading cannot be written under the service; a number names nothing */
+#define WIKUAY_REFUSED_NO_SEPTET 9      /* a given septet is 128 or more; position: the first such septet */
+#define WIKUAY_REFUSED_WRONG_PAGES 10   /* pages or parts that are not those of one message; a page that it lacks */
+#define WIKUAY_REFUSED_WRONG_LETTERS 11 /* a language letter is not a to z, or there is no CR behind them */
 /* Not given yet by any call. */
-#define WIKUAY_REFUSED_WRONG_LETTERS 11 /* language letters */
-#define WIKUAY_REFUSED_WRONG_HEADER 12  /* user data header */
-#define WIKUAY_REFUSED_NO_TABLE 13      /* no table for the language */
-#define WIKUAY_REFUSED_ILL_FORMED 14    /* ill-formed sequence or lone surrogate */
+#define WIKUAY_REFUSED_WRONG_HEADER 12 /* user data header */
+#define WIKUAY_REFUSED_NO_TABLE 13     /* no table for the language */
+#define WIKUAY_REFUSED_ILL_FORMED 14   /* ill-formed sequence or lone surrogate */
 
 /* The constant's own name, and what the command prints. 0 is no refusal; another number is unknown. */
 static inline const char *wikuay_refusal_name(uint32_t refusal) {
@@ -111,6 +111,8 @@ static inline const char *wikuay_refusal_text(uint32_t refusal) {
 #define WIKUAY_BROADCAST_SEPTETS 93
 #define WIKUAY_BROADCAST_UNITS 41
 #define WIKUAY_BROADCAST_OCTETS 82 /* exactly */
+#define WIKUAY_LETTERED_SEPTETS 90 /* of a broadcast page behind its language letters and their CR */
+#define WIKUAY_LETTERED_UNITS 40   /* the same of UCS2, which has no CR there */
 #define WIKUAY_USSD_SEPTETS 182
 #define WIKUAY_USSD_UNITS 80
 #define WIKUAY_USSD_OCTETS 160
@@ -175,7 +177,9 @@ static inline const char *wikuay_refusal_text(uint32_t refusal) {
 #define WIKUAY_HOLDS_7BIT 1
 #define WIKUAY_HOLDS_UCS2 2
 
-/* What a data coding octet says. */
+/* What a data coding octet says, and the letters that name the language in front of the text. They are those of a
+   broadcast page with the prefix mark, 'a' to 'z', and 0 where absent. Any other number is a wrong letter: none is
+   refused as a field that names nothing. */
 typedef struct {
   uint8_t alphabet;      /* WIKUAY_7BIT .. WIKUAY_WAP */
   uint8_t compressed;    /* flag */
@@ -185,11 +189,13 @@ typedef struct {
   uint8_t prefix;        /* flag: the text begins with its language */
   uint8_t reserved;      /* flag: the coding is reserved, and reads as 7-bit text */
   uint16_t notice;       /* WIKUAY_NO_NOTICE, or a sum as above */
+  uint8_t first_letter;  /* 'a' to 'z', or 0 where absent */
+  uint8_t second_letter; /* the same */
 } wikuay_reading;
 
 /* The reading of 7-bit text with nothing special, for any service but the old page. WIKUAY_PLAIN initialises one, and
    wikuay_plain() is one. */
-#define WIKUAY_PLAIN {WIKUAY_7BIT, 0, WIKUAY_NO_CLASS, WIKUAY_NO_LANGUAGE, 0, 0, 0, WIKUAY_NO_NOTICE}
+#define WIKUAY_PLAIN {WIKUAY_7BIT, 0, WIKUAY_NO_CLASS, WIKUAY_NO_LANGUAGE, 0, 0, 0, WIKUAY_NO_NOTICE, 0, 0}
 
 static inline wikuay_reading wikuay_plain(void) {
   wikuay_reading reading = WIKUAY_PLAIN;
@@ -261,19 +267,20 @@ typedef struct {
 uint32_t wikuay_version(void);
 
 /*
- * Reads a data coding octet. Clauses 4 and 5.
+ * Reads a data coding octet. It says no language letters: those of the reading are 0. Clauses 4 and 5.
  * Refuses: 8 unknown service, 2 an old page whose bits 3..0 are not 0.
  */
 wikuay_read_answer wikuay_read_coding(uint32_t service, uint8_t coding);
 
 /*
- * Writes a reading as the smallest octet that reads so. Clauses 4 and 5.
+ * Writes a reading as the smallest octet that reads so, whatever its language letters are. Clauses 4 and 5.
  * Refuses: 8 unknown service, a field that names nothing, an old page, the reserved mark, no octet reads so.
  */
 wikuay_answer wikuay_write_coding(uint32_t service, wikuay_reading reading);
 
 /*
- * Which text a reading holds. Clauses 4 and 5.
+ * Which text a reading holds under every service, whatever its language letters are. Clauses 4 and 5.
+ * A reading with the prefix mark holds text on one broadcast page alone, so it is refused 3 here.
  * Refuses: 8 a field that names nothing, 1, 2, 3.
  */
 wikuay_read_answer wikuay_holds_text(wikuay_reading reading);
@@ -307,15 +314,20 @@ wikuay_answer wikuay_septets_to_text(const uint8_t *septets, size_t septets_len,
 /*
  * Reads a message: its text, and what its coding octet says. Clauses 4, 5 and 6.
  * count is the septets of a 7-bit short message, the octets of a UCS2 one, and 0 for the other services.
- * Refuses: 8 unknown service, 1, 2, 3, 4, 7. Stores units.
+ * The reading of a broadcast page with the prefix mark has its language letters. Behind them, and behind the CR that
+ * 7-bit text has there, CRs that close the text are dropped.
+ * Refuses: 8 unknown service, 1, 2, 3 the prefix mark in USSD, 4, 11 on a broadcast page with the prefix mark a letter
+ * that is not a to z or no CR behind them, 7. Stores units.
  */
 wikuay_read_answer wikuay_read_message(uint32_t service, uint8_t coding, size_t count, const uint8_t *octets,
                                        size_t octets_len, uint16_t *out, size_t out_len);
 
 /*
  * Writes a message: the octets of a text under a reading, with the length count and the coding octet. Clauses 4, 5, 6.
- * Refuses: 8 unknown service, a field that names nothing, a reading that cannot be written; 1, 2, 3, 6, 5, 7.
- * Stores octets.
+ * A broadcast page with the prefix mark begins with the language letters of the reading.
+ * Refuses: 8 unknown service, a field that names nothing, a reading that cannot be written, a letter without the prefix
+ * mark; 1, 2, 3 the prefix mark in USSD, 11 on a broadcast page with the prefix mark a letter that is 0 or not a to z,
+ * 6, 5, 7. Stores octets.
  */
 wikuay_answer wikuay_write_message(uint32_t service, wikuay_reading reading, const uint16_t *text, size_t text_len,
                                    uint8_t *out, size_t out_len);
@@ -328,15 +340,17 @@ wikuay_block_header wikuay_read_header(wikuay_block block);
 
 /*
  * How many pages a text takes under a reading: as few as hold it, and one for the empty text. Clauses 5 and 6.
- * Refuses: 8 a field that names nothing, a reading that cannot be written on a broadcast page; 1, 2, 3, 6, 5.
+ * No message of pages has language letters: the prefix mark is refused 3, here and below, where one page is enough too.
+ * Refuses: 8 a field that names nothing, a reading that cannot be written on a broadcast page, a letter without the
+ * prefix mark; 1, 2, 3, 6, 5.
  */
 wikuay_pages_answer wikuay_count_pages(wikuay_reading reading, const uint16_t *text, size_t text_len);
 
 /*
  * Builds page number, from 1, of a text under a reading: every page but the last is full, and an escape may end one
  * with its code on the next. Clauses 5 and 6, and the block of 3GPP TS 23.041.
- * Refuses: 8 a field that names nothing, a reading that cannot be written on a broadcast page; 1, 2, 3, 6, 5, 10 a page
- * that the message lacks.
+ * Refuses: 8 a field that names nothing, a reading that cannot be written on a broadcast page, a letter without the
+ * prefix mark; 1, 2, 3, 6, 5, 10 a page that the message lacks.
  */
 wikuay_page_answer wikuay_build_page(uint16_t sequence, uint16_t identifier, wikuay_reading reading,
                                      const uint16_t *text, size_t text_len, size_t number);
@@ -344,8 +358,8 @@ wikuay_page_answer wikuay_build_page(uint16_t sequence, uint16_t identifier, wik
 /*
  * Writes all pages of a text under a reading, the blocks end to end in their order. Clauses 5 and 6, and the block of
  * 3GPP TS 23.041.
- * Refuses: 8 a field that names nothing, a reading that cannot be written on a broadcast page; 1, 2, 3, 6, 5, 7.
- * Stores octets, 88 a page.
+ * Refuses: 8 a field that names nothing, a reading that cannot be written on a broadcast page, a letter without the
+ * prefix mark; 1, 2, 3, 6, 5, 7. Stores octets, 88 a page.
  */
 wikuay_pages_answer wikuay_write_pages(uint16_t sequence, uint16_t identifier, wikuay_reading reading,
                                        const uint16_t *text, size_t text_len, uint8_t *out, size_t out_len);

@@ -18,6 +18,8 @@ use Rattle.answers.proofs.held.Kinds as held-kinds
 use Rattle.answers.proofs.held.Reads as held
 use Rattle.answers.proofs.shown.Kinds as shown-kinds
 use Rattle.answers.proofs.shown.Reads as shown
+use Rattle.answers.proofs.message_read.Kinds as message-read-kinds
+use Rattle.answers.proofs.message_read.Reads as message-read
 
 pub done-unique : OneAnswer done-kinds.ps done-kinds.r done.Post
 done-unique κs a x y u v p q = p ∙ sym q
@@ -42,3 +44,6 @@ held-unique κs a x y u v p q = p ∙ sym q
 
 pub shown-unique : OneAnswer shown-kinds.ps shown-kinds.r shown.Post
 shown-unique κs a x y u v p q = p ∙ sym q
+
+pub message-read-unique : OneAnswer message-read-kinds.ps message-read-kinds.r message-read.Post
+message-read-unique κs a x y u v p q = p ∙ sym q

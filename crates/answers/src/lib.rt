@@ -1,10 +1,11 @@
 // The library's answers in numbers: what each reports, by the definitions of the crate that gives it.
 ghost use mathlib.Core.Path.{_≡_};
-ghost use Rattle.answers.specs.Answers.{doneAnswer, refusedAnswer, readAnswer, readRefusedAnswer, filledAnswer, octetWrittenAnswer, octetReadAnswer, heldAnswer, shownAnswer};
+ghost use Rattle.answers.specs.Answers.{doneAnswer, refusedAnswer, readAnswer, readRefusedAnswer, filledAnswer, octetWrittenAnswer, octetReadAnswer, heldAnswer, shownAnswer, messageReadAnswer};
 use coding::Held;
 use coding::OctetRead;
 use coding::OctetWritten;
 use coding::Reading;
+use demands::MessageRead;
 use names::ReadingNumbers;
 use words::Filled;
 use words::Refusal;
@@ -140,5 +141,15 @@ pub fn shown(reading: ReadingNumbers, answer: Filled) -> ReadAnswer
             reading: reading,
         },
         Filled::Refused(refusal) => read_refused(refusal),
+    }
+}
+
+// Of reading a message.
+pub fn message_read(answer: MessageRead) -> ReadAnswer
+    ensures answer { λ r. ⌜ r ≡ messageReadAnswer answer ⌝ }
+{
+    match answer {
+        MessageRead::Done { units, reading } => read(units, 0, reading),
+        MessageRead::Refused(refusal) => read_refused(refusal),
     }
 }

@@ -30,7 +30,7 @@ use Rattle.names.specs.declared.NamedNotice.{NamedNotice}
 use Rattle.names.specs.declared.NamedNotice.the-variants as notice
 use Rattle.names.specs.declared.NamedReading.{NamedReading}
 use Rattle.names.specs.declared.NamedReading.the-variants as reading
-use Rattle.names.specs.Inner.{joinedFields, InOctets}
+use Rattle.names.specs.Inner.{joinedFields, joinedRest, InOctets}
 use Rattle.words.specs.Services.{serviceNo, namedService}
 use Rattle.names.specs.Names.{namedNotice, numbersOf, namesFlags, namesFields, readingWith, withNamed, namedReading}
 
@@ -247,18 +247,27 @@ alphabet-below : (ucs2 : Bool) → cond ucs2 2 0 < 256
 alphabet-below true = omega arith
 alphabet-below false = omega arith
 
-pub plain-named : (x : ReadingNumbers) (ucs2 : Bool) → InOctets x → x .notice ≡ 0 → joinedFields x ≡ 0x1000000 * 15 + cond ucs2 2 0
+pub plain-named : (x : ReadingNumbers) (ucs2 : Bool) → InOctets x → joinedRest x ≡ 0 → joinedFields x ≡ 0x1000000 * 15 + cond ucs2 2 0
     → namedReading x ≡ reading.Named (plainIn ucs2)
 unfolding namedReading namesFields namesFlags namedNotice
-plain-named x ucs2 w n e = by-fields ucs2 (plain-fields x (cond ucs2 2 0) w (alphabet-below ucs2) e)
+plain-named x ucs2 w z e = by-fields ucs2 (plain-fields x (cond ucs2 2 0) w (alphabet-below ucs2) e)
   where
+    n : x .notice ≡ 0
+    n = omega (arith, z)
+
+    p : x .first ≡ 0
+    p = omega (arith, z)
+
+    q : x .second ≡ 0
+    q = omega (arith, z)
+
     by-fields : (ucs2 : Bool) → (x .alphabet ≡ cond ucs2 2 0) × (x .compressed ≡ 0) × (x .class ≡ 0) × (x .language ≡ 15) × (x .deletion ≡ 0) × (x .prefix ≡ 0) × (x .reserved ≡ 0)
         → namedReading x ≡ reading.Named (plainIn ucs2)
-    by-fields true b = simp (b .0, b .1, b .2, b .3, b .4, b .5, b .6, n)
-    by-fields false b = simp (b .0, b .1, b .2, b .3, b .4, b .5, b .6, n)
+    by-fields true b = simp (b .0, b .1, b .2, b .3, b .4, b .5, b .6, n, p, q)
+    by-fields false b = simp (b .0, b .1, b .2, b .3, b .4, b .5, b .6, n, p, q)
 
 abbrev pub plainRow : ℕ → ReadingNumbers
-plainRow alphabet = record { alphabet = alphabet; compressed = 0; class = 0; language = 15; deletion = 0; prefix = 0; reserved = 0; notice = 0 }
+plainRow alphabet = record { alphabet = alphabet; compressed = 0; class = 0; language = 15; deletion = 0; prefix = 0; reserved = 0; notice = 0; first = 0; second = 0 }
 
 pub plain-own : (ucs2 : Bool) → plainRow (cond ucs2 2 0) ≡ numbersOf (plainIn ucs2)
 plain-own true = refl

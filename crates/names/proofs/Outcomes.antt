@@ -6,8 +6,8 @@ use Rattle.names.proofs.reading.Kinds as reading-kinds
 use Rattle.names.proofs.reading.Reads as reading
 use Rattle.names.proofs.numbers.Kinds as numbers-kinds
 use Rattle.names.proofs.numbers.Reads as numbers
-use Rattle.names.proofs.said.settled.Kinds as settled-kinds
-use Rattle.names.proofs.said.settled.Reads as settled
+use Rattle.names.proofs.said.coded.Kinds as coded-kinds
+use Rattle.names.proofs.said.coded.Reads as coded
 use Rattle.names.proofs.said.hears.Kinds as hears-kinds
 use Rattle.names.proofs.said.hears.Reads as hears
 
@@ -17,8 +17,8 @@ reading-unique κs a x y u v p q = p ∙ sym q
 pub numbers-unique : OneAnswer numbers-kinds.ps numbers-kinds.r numbers.Post
 numbers-unique κs a x y u v p q = p ∙ sym q
 
-pub settled-unique : OneAnswer settled-kinds.ps settled-kinds.r settled.Post
-settled-unique κs a x y u v p q = p ∙ sym q
+pub coded-unique : OneAnswer coded-kinds.ps coded-kinds.r coded.Post
+coded-unique κs a x y u v p q = p ∙ sym q
 
 pub hears-unique : OneAnswer hears-kinds.ps hears-kinds.r hears.Post
 hears-unique κs a x y u v p q = p ∙ sym q

@@ -1,5 +1,5 @@
 -- The numbers that name a reading where they cross from C.
--- Own rule: the fields of a reading have the numbers of crate `coding`.
+-- Own rule: the fields of a reading have the numbers of crate `fields`, and a letter is its own number.
 -- Cited by the definitions of the exported calls. Assumes nothing.
 --   namedNotice n          == the notice with the number n, if there is one
 --   numbersOf r            == the numbers of the fields of the reading r
@@ -44,6 +44,8 @@ numbersOf r =
       prefix = flagNo (r .prefix);
       reserved = flagNo (r .reserved);
       notice = noticeNo (r .notice);
+      first = r .letters .first;
+      second = r .letters .second;
     }
 
 -- each field but the notice has a number that names something
@@ -64,6 +66,7 @@ readingWith x v =
       notice = v;
       prefix = eqb (x .prefix) 1;
       reserved = eqb (x .reserved) 1;
+      letters = record { first = x .first; second = x .second };
     }
 
 abbrev pub withNamed : ReadingNumbers → NamedNotice → NamedReading

@@ -3,11 +3,12 @@ ghost use mathlib.Core.Path.{_≡_};
 ghost use mathlib.Core.Bool.{true, cond};
 ghost use Prim.Native.Nat.{_<_};
 ghost use Rattle.names.specs.Names.{namedNotice, namesFlags, namesFields, readingWith, namedReading, numbersOf};
-ghost use Rattle.names.specs.Inner.{joinedFields, InOctets};
+ghost use Rattle.names.specs.Inner.{joinedFields, joinedRest, InOctets};
 ghost use Rattle.coding.specs.Readings.{plainIn};
 ghost use Rattle.names.specs.declared.NamedReading.the-variants.{Named};
 use coding::Reading;
 use fields::Alphabet;
+use fields::Letters;
 use fields::Notice;
 use fields::flag;
 
@@ -24,6 +25,8 @@ pub struct ReadingNumbers {
     pub prefix: u8,
     pub reserved: u8,
     pub notice: u16,
+    pub first: u8,
+    pub second: u8,
 }
 
 // What a number says of a waiting notice.
@@ -95,7 +98,7 @@ fn flags(numbers: ReadingNumbers) -> bool
     true
 }
 
-// Whether each field but the notice has a number that names something.
+// Whether each field but the notice has a number that names something. Every number names a letter, or none.
 fn fields(numbers: ReadingNumbers) -> bool
     ensures { λ r. ⌜ r ≡ namesFields numbers ⌝ }
 {
@@ -134,6 +137,10 @@ fn with(numbers: ReadingNumbers, notice: Notice) -> Reading
         notice: notice,
         prefix: numbers.prefix == 1,
         reserved: numbers.reserved == 1,
+        letters: Letters {
+            first: numbers.first,
+            second: numbers.second,
+        },
     }
 }
 
@@ -144,7 +151,7 @@ fn wide(number: u8) -> u64
     number as u64
 }
 
-// All fields but the notice as one number, each in eight bits of its own: one test then tells plain text.
+// All fields but the notice and the letters as one number, each in eight bits of its own: one test then tells plain text.
 fn joined(numbers: ReadingNumbers) -> u64
     ensures { λ r. ⌜ (r ≡ joinedFields numbers) × InOctets numbers ⌝ }
 {
@@ -164,6 +171,13 @@ fn joined(numbers: ReadingNumbers) -> u64
         + 0x1000000000000 * reserved
 }
 
+// The notice and the letters as one number, each in bits of its own: one test then tells that there is none.
+fn rest(numbers: ReadingNumbers) -> u32
+    ensures { λ r. ⌜ r ≡ joinedRest numbers ⌝ }
+{
+    (numbers.notice as u32) + 0x10000 * (numbers.first as u32) + 0x1000000 * (numbers.second as u32)
+}
+
 // The number of plain text's alphabet.
 pub(crate) fn plain_alphabet(ucs2: bool) -> u8
     ensures { λ r. ⌜ r ≡ cond ucs2 2 0 ⌝ }
@@ -175,7 +189,7 @@ pub(crate) fn plain_alphabet(ucs2: bool) -> u8
 pub(crate) fn plain(numbers: ReadingNumbers, ucs2: bool) -> bool
     ensures { λ r. ⌜ (r ≡ true → namedReading numbers ≡ Named (plainIn ucs2)) ⌝ }
 {
-    if numbers.notice != 0 {
+    if rest(numbers) != 0 {
         return false;
     }
     joined(numbers) == 0x1000000 * 15 + wide(plain_alphabet(ucs2))
@@ -195,6 +209,8 @@ pub(crate) fn plain_numbers(ucs2: bool) -> ReadingNumbers
         prefix: 0,
         reserved: 0,
         notice: 0,
+        first: 0,
+        second: 0,
     }
 }
 
@@ -233,6 +249,7 @@ pub fn numbers(reading: Reading) -> ReadingNumbers
     let class = reading.class;
     let language = reading.language;
     let notice = reading.notice;
+    let letters = reading.letters;
     ReadingNumbers {
         alphabet: alphabet.number(),
         compressed: flag(reading.compressed),
@@ -242,5 +259,7 @@ pub fn numbers(reading: Reading) -> ReadingNumbers
         prefix: flag(reading.prefix),
         reserved: flag(reading.reserved),
         notice: notice.number(),
+        first: letters.first,
+        second: letters.second,
     }
 }

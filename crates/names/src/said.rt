@@ -6,7 +6,7 @@ ghost use Rattle.coding.specs.OctetRead.{octetReads};
 ghost use Rattle.coding.specs.Holding.{holdsText};
 ghost use Rattle.coding.specs.Readings.{plainIn};
 ghost use Rattle.coding.specs.declared.OctetRead.the-variants.{Done};
-ghost use Rattle.names.specs.Said.{settledIn, heldBy, heardBy};
+ghost use Rattle.names.specs.Said.{codedIn, heldBy, readingHeard, heardBy};
 use crate::NamedReading;
 use crate::ReadingNumbers;
 use coding::Held;
@@ -15,27 +15,30 @@ use coding::OctetWritten;
 use coding::Reading;
 use words::Refusal;
 use words::Service;
+use writer::MessageCoding;
 use writer::Settled;
 
 // What a text is read with.
 pub enum Heard {
     Text { ucs2: bool, reading: ReadingNumbers },
+    // A broadcast page behind the letters of its language.
+    Lettered(Reading),
     Refused(Refusal),
 }
 
-// What the numbers of a reading settle of a text that is written.
-pub fn settled(service: Service, numbers: ReadingNumbers) -> Settled
-    ensures answer { λ r. ⌜ r ≡ settledIn service numbers ⌝ }
+// What the numbers of a reading settle of one message that is written.
+pub fn coded(service: Service, numbers: ReadingNumbers) -> MessageCoding
+    ensures answer { λ r. ⌜ r ≡ codedIn service numbers ⌝ }
 {
     if crate::plain(numbers, false) {
-        return writer::settle_plain(service, false);
+        return MessageCoding::Text(writer::settle_plain(service, false));
     }
     if crate::plain(numbers, true) {
-        return writer::settle_plain(service, true);
+        return MessageCoding::Text(writer::settle_plain(service, true));
     }
     match crate::any_reading(numbers) {
-        NamedReading::Named(reading) => writer::settle(service, reading),
-        NamedReading::Unnamed => Settled::Refused(Refusal::Unwritable),
+        NamedReading::Named(reading) => writer::code_message(service, reading),
+        NamedReading::Unnamed => MessageCoding::Text(Settled::Refused(Refusal::Unwritable)),
     }
 }
 
@@ -50,7 +53,7 @@ pub fn hears(service: Service, coding: u8) -> Heard
         return plain_heard(service, true);
     }
     match coding::read_octet(service, coding) {
-        OctetRead::Done(reading) => reading_heard(service, reading),
+        OctetRead::Done(reading) => coded_heard(service, reading),
         OctetRead::Refused(refusal) => Heard::Refused(refusal),
     }
 }
@@ -75,7 +78,17 @@ fn plain_heard(service: Service, ucs2: bool) -> Heard
     }
 }
 
-// What a text is read with under any reading.
+// What one message is read with under any reading.
+fn coded_heard(service: Service, reading: Reading) -> Heard
+    ensures { λ r. ⌜ r ≡ readingHeard service reading ⌝ }
+{
+    if reading.lettered(service) {
+        return Heard::Lettered(reading);
+    }
+    reading_heard(service, reading)
+}
+
+// What a text by itself is read with under any reading.
 fn reading_heard(service: Service, reading: Reading) -> Heard
     ensures { λ r. ⌜ r ≡ heldBy (holdsText service reading) reading ⌝ }
 {

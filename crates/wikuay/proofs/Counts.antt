@@ -1,6 +1,6 @@
 -- No length count is over 160, so that it crosses to C in 32 bits: an accepted text is not over its service's size.
 -- Assumes nothing.
-use mathlib.Core.Path.{_≡_, refl}
+use mathlib.Core.Path.{_≡_, refl, ap, sym, _∙_}
 use mathlib.Core.Bool.{Bool, true, false, cond}
 use mathlib.Core.List.{List}
 use Prim.Native.Nat.{ℕ, _≤_}
@@ -16,8 +16,8 @@ use Rattle.lists.specs.Lists.{firstPlace}
 use Rattle.words.specs.Judging.{Verdict, refused, accepted, verdict, settle}
 use Rattle.words.proofs.Judging.{accepted-rule, accepted-parts}
 use Rattle.coding.specs.declared.Reading.{Reading}
-use Rattle.coding.specs.Holding.{isUcs2, textRules}
-use Rattle.coding.specs.OctetWritten.{writeRules as codingRules}
+use Rattle.coding.specs.Holding.{isUcs2}
+use Rattle.coding.specs.LanguageLetters.{isLettered, codingRules}
 use Rattle.letters.specs.Writing.{septetsOf, firstUnlisted}
 use Rattle.stream.proofs.UnitOctets.{unit-octets-length}
 use Rattle.stream.specs.declared.Packed.the-variants as packed
@@ -25,7 +25,9 @@ use Rattle.stream.specs.Answers.{packedCount}
 use Rattle.stream.specs.SeptetCalls.{countOf, packRules, packAnswers}
 use Rattle.stream.specs.UnitCalls.{unitCountOf}
 use Rattle.demands.specs.declared.MessageWritten.the-variants as written
-use Rattle.demands.specs.MessageWritten.{textSizeRules, notCodable, overSize, sizeRules, writeRules, writeAnswers}
+use Rattle.demands.specs.MessageWritten.{textSizeRules, notCodable, overSize, messageCount, sizeRules, markRules, writeRules, writeAnswers}
+use Rattle.demands.proofs.LetteredSteps.{page-count}
+use Rattle.demands.proofs.Unlettered.{size-rules}
 use Rattle.demands.specs.Reports.{writeCount}
 use Rattle.names.specs.declared.ReadingNumbers.{ReadingNumbers}
 use Rattle.words.specs.declared.NamedService.{NamedService}
@@ -74,11 +76,14 @@ pack-count service s room =
 
 pub write-count : (service : Service) (r : Reading) (us : List ℕ) (room : ℕ) → writeCount (writeAnswers service r us room) ≤ 160
 unfolding writeAnswers writeRules textSizeRules
-write-count service r us room =
-    written-within (verdict (writeRules service r us room)) _ _ _ (λ e.
-    let sized = accepted-parts (textRules service r) (sizeRules service r us room) (accepted-parts (codingRules service r) _ e .1) .1 in
-    let two = accepted-rule (notCodable (isUcs2 (r .alphabet)) us) (Unlisted (firstUnlisted us)) _ sized .1 in
-    text-count (isUcs2 (r .alphabet)) service us (accepted-rule (overSize service (isUcs2 (r .alphabet)) us) TooLong _ two .0))
+write-count service r us room = written-within (verdict (writeRules service r us room)) _ _ _ (λ e. go (isLettered service r) refl e)
+  where
+    go : (b : Bool) → isLettered service r ≡ b → verdict (writeRules service r us room) ≡ accepted → messageCount service r us ≤ 160
+    go true l e = omega (arith, page-count service r us l)
+    go false l e =
+        let sized = ap verdict (sym (size-rules service r l us room)) ∙ accepted-parts (markRules service r) (sizeRules service r us room) (accepted-parts (codingRules service r) _ e .1) .1 in
+        let two = accepted-rule (notCodable (isUcs2 (r .alphabet)) us) (Unlisted (firstUnlisted us)) _ sized .1 in
+        text-count (isUcs2 (r .alphabet)) service us (accepted-rule (overSize service (isUcs2 (r .alphabet)) us) TooLong _ two .0)
 
 -- what is told of a message is what its own answer tells
 pub gives-count : (n : ℕ) (x : ReadingNumbers) (us : List ℕ) (room : ℕ) → writeMessageGives n x us room .count ≤ 160

@@ -9,7 +9,8 @@ use Prim.Native.Nat.{ℕ}
 use lib.ListN.{length, replicate}
 use Rattle.words.specs.declared.Refusal.the-variants.{Unwritable}
 use Rattle.words.specs.Judging.{Verdict, refused, accepted, verdict, settle}
-use Rattle.coding.specs.OctetWritten.{writeRules as codingRules}
+use Rattle.coding.specs.OctetWritten.{writeRules as aloneRules}
+use Rattle.coding.specs.LanguageLetters.{codingRules}
 use Rattle.coding.specs.Holding.{textRules}
 use Rattle.names.specs.declared.ReadingNumbers.{ReadingNumbers}
 use Rattle.names.specs.declared.NamedReading.{NamedReading}
@@ -38,7 +39,7 @@ joinNumber a = a .refusal
 
 pub wikuay-count-pages-refuses : (x : ReadingNumbers) (text : List ℕ)
     → Judged pagesNumber pagesRefusedAnswer (8 ∷ 1 ∷ 2 ∷ 3 ∷ 6 ∷ 5 ∷ []) (countPagesGives x text) [] []
-unfolding countPagesGives countAnswers countRules codingRules textRules sizeRules
+unfolding countPagesGives countAnswers countRules codingRules aloneRules textRules sizeRules
 wikuay-count-pages-refuses x text = of-reading (namedReading x)
   where
     of-reading : (v : NamedReading)
@@ -56,7 +57,7 @@ built numbers accepted k n block = inl refl
 
 pub wikuay-build-page-refuses : (sequence identifier : ℕ) (x : ReadingNumbers) (text : List ℕ) (k : ℕ)
     → Judged pageNumber pageRefusedAnswer (8 ∷ 1 ∷ 2 ∷ 3 ∷ 6 ∷ 5 ∷ 10 ∷ []) (buildPageGives sequence identifier x text k) [] []
-unfolding buildPageGives builtAs buildRules countRules codingRules textRules sizeRules
+unfolding buildPageGives builtAs buildRules countRules codingRules aloneRules textRules sizeRules
 wikuay-build-page-refuses sequence identifier x text k = of-reading (namedReading x)
   where
     of-reading : (v : NamedReading)
@@ -69,7 +70,7 @@ wikuay-build-page-refuses sequence identifier x text k = of-reading (namedReadin
 pub wikuay-write-pages-refuses : (sequence identifier : ℕ) (x : ReadingNumbers) (text out : List ℕ)
     → Judged pagesNumber pagesRefusedAnswer (8 ∷ 1 ∷ 2 ∷ 3 ∷ 6 ∷ 5 ∷ 7 ∷ []) (writePagesGives sequence identifier x text (length out)) out
     (writePagesKeeps sequence identifier x text out)
-unfolding writePagesGives writePagesKeeps pagesAnswers pagesLeaves pagesRules countRules codingRules textRules sizeRules
+unfolding writePagesGives writePagesKeeps pagesAnswers pagesLeaves pagesRules countRules codingRules aloneRules textRules sizeRules
 wikuay-write-pages-refuses sequence identifier x text out = of-reading (namedReading x)
   where
     of-reading : (v : NamedReading)

@@ -5,7 +5,7 @@
 --   wikuay-text-to-septets-refuses, wikuay-septets-to-text-refuses, wikuay-read-message-refuses, wikuay-write-message-refuses
 use mathlib.Core.Path.{_≡_, refl}
 use mathlib.Core.Bool.{Bool, true, false, cond, _&&_}
-use mathlib.Core.List.{List, [], _∷_}
+use mathlib.Core.List.{List, [], _∷_, _++_}
 use mathlib.Core.Logic.{inl, inr}
 use Prim.Native.Nat.{ℕ}
 use lib.ListN.{length}
@@ -16,15 +16,18 @@ use Rattle.words.specs.declared.Refusal.the-variants.{Unwritable}
 use Rattle.words.specs.Refusals.{numberOf}
 use Rattle.words.specs.Judging.{Rule, when, Verdict, refused, accepted, verdict, settle}
 use Rattle.lists.proofs.Tests.{and-left, and-right}
-use Rattle.coding.specs.OctetRead.{octetRules, octetReads}
-use Rattle.coding.specs.OctetWritten.{octetWrites, writeRules as codingRules}
+use Rattle.coding.specs.declared.Reading.{Reading}
+use Rattle.coding.specs.OctetRead.{octetRules, octetReads, readUnder}
+use Rattle.coding.specs.OctetWritten.{octetWrites, writeRules as aloneRules}
+use Rattle.coding.specs.LanguageLetters.{isLettered, codingRules}
 use Rattle.coding.specs.declared.Held.the-variants as held
 use Rattle.coding.specs.Holding.{isUcs2, holdsText, textRules}
 use Rattle.letters.specs.Writing.{septetsRules, septetsAnswers, septetsLeaves}
 use Rattle.letters.specs.Reading.{textOf, textRules as septetRules, textAnswers, textLeaves}
 use Rattle.stream.specs.SeptetCalls.{packRules, packAnswers, packLeaves, unpackRules, unpackAnswers, unpackLeaves}
-use Rattle.demands.specs.MessageRead.{textLengthRules, readRules, readAnswers, readLeaves}
-use Rattle.demands.specs.MessageWritten.{textSizeRules, writeRules, writeAnswers, writeLeaves}
+use Rattle.demands.specs.MessageRead.{textLengthRules, clearRules, readRules, readAnswers, readLeaves}
+use Rattle.demands.specs.MessageWritten.{textSizeRules, letterRules, writeRules, writeAnswers, writeLeaves}
+use Rattle.lettered.specs.LetteredPage.{letteredSizeRules, letteredReadRules}
 use Rattle.answers.specs.declared.Answer.{Answer}
 use Rattle.answers.specs.declared.ReadAnswer.{ReadAnswer}
 use Rattle.names.specs.declared.ReadingNumbers.{ReadingNumbers}
@@ -97,11 +100,11 @@ wikuay-read-coding-refuses n coding = of-service (namedService n)
     of-service service.Unnamed = inr (Unwritable, (refl, (refl, refl)))
 
 pub wikuay-write-coding-refuses : (n : ℕ) (x : ReadingNumbers) → Judged answerNumber refusedAnswer (8 ∷ []) (writeCodingGives n x) [] []
-unfolding writeCodingGives octetWrites codingRules
+unfolding writeCodingGives octetWrites aloneRules
 wikuay-write-coding-refuses n x = of-service (namedService n)
   where
     of-reading : (s : Service) (v : NamedReading) → Judged answerNumber refusedAnswer (8 ∷ []) (underReading v (refusedAnswer Unwritable) (λ r. octetWrittenAnswer (octetWrites s r))) [] []
-    of-reading s (reading.Named r) = judged-alone answerNumber refusedAnswer (8 ∷ []) (codingRules s r) refl octetWrittenAnswer _ _ (λ q. refl) refl
+    of-reading s (reading.Named r) = judged-alone answerNumber refusedAnswer (8 ∷ []) (aloneRules s r) refl octetWrittenAnswer _ _ (λ q. refl) refl
     of-reading s reading.Unnamed = inr (Unwritable, (refl, (refl, refl)))
 
     of-service : (v : NamedService)
@@ -159,38 +162,49 @@ wikuay-septets-to-text-refuses septets out =
 -- ---- whole messages
 
 pub wikuay-read-message-refuses : (n coding count : ℕ) (o out : List ℕ)
-    → Judged readNumber readRefusedAnswer (8 ∷ 1 ∷ 2 ∷ 3 ∷ 4 ∷ 7 ∷ []) (readMessageGives n coding count o (length out)) out (readMessageKeeps n coding count o out)
-unfolding readMessageGives readMessageKeeps readAnswers readLeaves readRules octetRules textRules textLengthRules
+    → Judged readNumber readRefusedAnswer (8 ∷ 1 ∷ 2 ∷ 3 ∷ 4 ∷ 11 ∷ 7 ∷ []) (readMessageGives n coding count o (length out)) out (readMessageKeeps n coding count o out)
+unfolding readMessageGives readMessageKeeps readAnswers readLeaves readRules octetRules textRules textLengthRules clearRules letteredReadRules
 wikuay-read-message-refuses n coding count o out = of-service (namedService n)
   where
-    of : (s : Service) → rulesAmong (8 ∷ 1 ∷ 2 ∷ 3 ∷ 4 ∷ 7 ∷ []) (readRules s coding count o (length out)) ≡ true
+    of : (s : Service) → rulesAmong (8 ∷ 1 ∷ 2 ∷ 3 ∷ 4 ∷ 11 ∷ 7 ∷ []) (readRules s coding count o (length out)) ≡ true
     of ShortMessage = refl
-    of Broadcast = refl
+    of Broadcast = page (readUnder Broadcast coding .prefix)
+      where
+        r : Reading
+        r = readUnder Broadcast coding
+
+        page : (b : Bool) → rulesAmong (8 ∷ 1 ∷ 2 ∷ 3 ∷ 4 ∷ 11 ∷ 7 ∷ []) (octetRules Broadcast coding ++ (cond b (clearRules r) (textRules Broadcast r) ++ cond b (letteredReadRules (isUcs2 (r .alphabet)) count o (length out)) (textLengthRules Broadcast (isUcs2 (r .alphabet)) count o (length out)))) ≡ true
+        page true = refl
+        page false = refl
     of Ussd = refl
     of OldPage = refl
 
     of-service : (v : NamedService)
-        → Judged readNumber readRefusedAnswer (8 ∷ 1 ∷ 2 ∷ 3 ∷ 4 ∷ 7 ∷ []) (underService v (readRefusedAnswer Unwritable) (λ s. messageReadAnswer (readAnswers s coding count o (length out)))) out
+        → Judged readNumber readRefusedAnswer (8 ∷ 1 ∷ 2 ∷ 3 ∷ 4 ∷ 11 ∷ 7 ∷ []) (underService v (readRefusedAnswer Unwritable) (λ s. messageReadAnswer (readAnswers s coding count o (length out)))) out
         (underService v out (λ s. readLeaves s coding count o out))
     of-service (service.Named s) =
-        judged readNumber readRefusedAnswer (8 ∷ 1 ∷ 2 ∷ 3 ∷ 4 ∷ 7 ∷ []) (readRules s coding count o (length out)) (of s) messageReadAnswer _ _ (λ q. refl) refl out _
+        judged readNumber readRefusedAnswer (8 ∷ 1 ∷ 2 ∷ 3 ∷ 4 ∷ 11 ∷ 7 ∷ []) (readRules s coding count o (length out)) (of s) messageReadAnswer _ _ (λ q. refl) refl out _
     of-service service.Unnamed = inr (Unwritable, (refl, (refl, refl)))
 
 pub wikuay-write-message-refuses : (n : ℕ) (x : ReadingNumbers) (text out : List ℕ)
-    → Judged answerNumber refusedAnswer (8 ∷ 1 ∷ 2 ∷ 3 ∷ 6 ∷ 5 ∷ 7 ∷ []) (writeMessageGives n x text (length out)) out (writeMessageKeeps n x text out)
-unfolding writeMessageGives writeMessageKeeps writeAnswers writeLeaves writeRules codingRules textRules textSizeRules
+    → Judged answerNumber refusedAnswer (8 ∷ 1 ∷ 2 ∷ 3 ∷ 11 ∷ 6 ∷ 5 ∷ 7 ∷ []) (writeMessageGives n x text (length out)) out (writeMessageKeeps n x text out)
+unfolding writeMessageGives writeMessageKeeps writeAnswers writeLeaves writeRules codingRules aloneRules textRules textSizeRules letterRules letteredSizeRules
 wikuay-write-message-refuses n x text out = of-service (namedService n)
   where
+    of : (s : Service) (r : Reading) (b : Bool) → rulesAmong (8 ∷ 1 ∷ 2 ∷ 3 ∷ 11 ∷ 6 ∷ 5 ∷ 7 ∷ []) (codingRules s r ++ (cond b (letterRules r) (textRules s r) ++ cond b (letteredSizeRules (isUcs2 (r .alphabet)) (r .letters) text (length out)) (textSizeRules s (isUcs2 (r .alphabet)) text (length out)))) ≡ true
+    of s r true = refl
+    of s r false = refl
+
     of-reading : (s : Service) (v : NamedReading)
-        → Judged answerNumber refusedAnswer (8 ∷ 1 ∷ 2 ∷ 3 ∷ 6 ∷ 5 ∷ 7 ∷ [])
+        → Judged answerNumber refusedAnswer (8 ∷ 1 ∷ 2 ∷ 3 ∷ 11 ∷ 6 ∷ 5 ∷ 7 ∷ [])
         (underReading v (refusedAnswer Unwritable) (λ r. messageWrittenAnswer (writeAnswers s r text (length out)))) out
         (underReading v out (λ r. writeLeaves s r text out))
     of-reading s (reading.Named r) =
-        judged answerNumber refusedAnswer (8 ∷ 1 ∷ 2 ∷ 3 ∷ 6 ∷ 5 ∷ 7 ∷ []) (writeRules s r text (length out)) refl messageWrittenAnswer _ _ (λ q. refl) refl out _
+        judged answerNumber refusedAnswer (8 ∷ 1 ∷ 2 ∷ 3 ∷ 11 ∷ 6 ∷ 5 ∷ 7 ∷ []) (writeRules s r text (length out)) (of s r (isLettered s r)) messageWrittenAnswer _ _ (λ q. refl) refl out _
     of-reading s reading.Unnamed = inr (Unwritable, (refl, (refl, refl)))
 
     of-service : (v : NamedService)
-        → Judged answerNumber refusedAnswer (8 ∷ 1 ∷ 2 ∷ 3 ∷ 6 ∷ 5 ∷ 7 ∷ [])
+        → Judged answerNumber refusedAnswer (8 ∷ 1 ∷ 2 ∷ 3 ∷ 11 ∷ 6 ∷ 5 ∷ 7 ∷ [])
         (underService v (refusedAnswer Unwritable) (λ s. underReading (namedReading x) (refusedAnswer Unwritable) (λ r. messageWrittenAnswer (writeAnswers s r text (length out))))) out
         (underService v out (λ s. underReading (namedReading x) out (λ r. writeLeaves s r text out)))
     of-service (service.Named s) = of-reading s (namedReading x)

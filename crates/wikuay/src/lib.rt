@@ -109,7 +109,7 @@ pub extern "C" fn wikuay_septets_to_text(septets: &[u8], out: &mut [u16]) -> Ans
     answers::filled(to_text::septets_to_text(septets, out))
 }
 
-// Reads a message. Refuses 8, 1, 2, 3, 4, 7, and then leaves the buffer as it came; a success touches only the written front.
+// Reads a message. Refuses 8, 1, 2, 3, 4, 11, 7, and then leaves the buffer as it came; a success touches only the written front.
 #[no_mangle]
 pub extern "C" fn wikuay_read_message(
     service: u32,
@@ -127,13 +127,16 @@ pub extern "C" fn wikuay_read_message(
                 reading,
                 reader::read_text(service, ucs2, count, octets, out),
             ),
+            Heard::Lettered(reading) => {
+                answers::message_read(reader::read_page(reading, count, octets, out))
+            }
             Heard::Refused(refusal) => answers::read_refused(refusal),
         },
         NamedService::Unnamed => answers::read_refused(Refusal::Unwritable),
     }
 }
 
-// Writes a message. Refuses 8, 1, 2, 3, 6, 5, 7, and then leaves the buffer as it came; a success touches only the written front.
+// Writes a message. Refuses 8, 1, 2, 3 or in its place 11, 6, 5, 7, and then leaves the buffer as it came; a success touches only the written front.
 #[no_mangle]
 pub extern "C" fn wikuay_write_message(
     service: u32,
@@ -145,8 +148,8 @@ pub extern "C" fn wikuay_write_message(
     ensures buffer { λ r. ⌜ now (out .exit) ≡ writeMessageKeeps service reading (now (text .entry)) (now (out .entry)) ⌝ }
 {
     match words::named_service(service) {
-        NamedService::Named(service) => message_written(writer::write_settled(
-            said::settled(service, reading),
+        NamedService::Named(service) => message_written(writer::write_coded(
+            said::coded(service, reading),
             text,
             out,
         )),

@@ -7,6 +7,9 @@ use borrow.Author.Needs.{needs}
 use Rattle.names.proofs.plain.Statement.{statement}
 use Rattle.names.proofs.plain.Tie as tie
 
+rest-requires : tie.Need-rest-requires
+rest-requires c κs = search needs
+
 returns : tie.Need-returns
 returns c = never
 
@@ -32,13 +35,14 @@ returns-2 c =
     let tested = asked .before in
     let a = tested .before .before .args in
     λ e.
-    plain-named (a .numbers) (a .ucs2) (asked .joined .ensures .1) (tested .if1 .left)
+    plain-named (a .numbers) (a .ucs2) (asked .joined .ensures .1) (sym (tested .before .rest .ensures) ∙ tested .if1 .left)
     (sym (asked .joined .ensures .0) ∙ eqb→eq _ _ (subst T (sym e) tt) ∙ ap (λ (n : ℕ). 0x1000000 * 15 + n) (c .wide .ensures .0 ∙ shown .plain-alphabet .ensures))
 
 pub plain-spec : {M : Type 1} → statement M
 plain-spec =
     tie.close
     (tie.spec
+    rest-requires
     returns
     joined-requires
     mul-result

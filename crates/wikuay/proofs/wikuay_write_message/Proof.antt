@@ -1,11 +1,11 @@
--- `wikuay_write_message` meets its contract: what the numbers settle of the text is written. Assumes nothing.
-use Rattle.wikuay.proofs.Settled.{gives-settled}
+-- `wikuay_write_message` meets its contract: what the numbers settle of the message is written. Assumes nothing.
+use Rattle.wikuay.proofs.Settled.{gives-coded}
 use Rattle.wikuay.proofs.Counts.{gives-count}
 use Rattle.wikuay.specs.Calls.{writeMessageGives, writeMessageKeeps}
 use Rattle.answers.specs.declared.Answer.{Answer}
 use Rattle.answers.specs.Answers.{messageWrittenAnswer}
-use Rattle.writer.specs.declared.Settled.{Settled}
-use Rattle.writer.specs.Settled.{settledWrites, settledLeaves}
+use Rattle.writer.specs.declared.MessageCoding.{MessageCoding}
+use Rattle.writer.specs.Coded.{codedWrites, codedLeaves}
 use Rattle.demands.specs.declared.MessageWritten.{MessageWritten}
 use Rattle.demands.specs.Reports.{writeCount}
 use Prim.Native.Nat.{ℕ, _≤_}
@@ -22,11 +22,11 @@ named-service-requires c κs = search needs
 enum-known-service : tie.Need-enum-known-service
 enum-known-service c = search needs
 
-settled-requires : tie.Need-settled-requires
-settled-requires c κs = search needs
+coded-requires : tie.Need-coded-requires
+coded-requires c κs = search needs
 
-write-settled-requires : tie.Need-write-settled-requires
-write-settled-requires c κs = search needs
+write-coded-requires : tie.Need-write-coded-requires
+write-coded-requires c κs = search needs
 
 message-written-requires : tie.Need-message-written-requires
 message-written-requires c κs =
@@ -36,8 +36,8 @@ message-written-requires c κs =
     let named = told .before .before in
     let a = named .before .before .before .args in
     let n = sym (named .named-service .ensures) ∙ told .service .given .1 in
-    let g = gives-settled (a .service) (a .reading) _ n (now (a .text)) (now (a .out)) in
-    let w = did .write-settled .ensures .0 ∙ ap (λ (x : Settled). settledWrites x (now (a .text)) (length (now (a .out)))) (asked .settled .ensures) in
+    let g = gives-coded (a .service) (a .reading) _ n (now (a .text)) (now (a .out)) in
+    let w = did .write-coded .ensures .0 ∙ ap (λ (x : MessageCoding). codedWrites x (now (a .text)) (length (now (a .out)))) (asked .coded .ensures) in
     subst (λ (w : MessageWritten). writeCount w ≤ 160) (sym w) (subst (λ (k : ℕ). k ≤ 160) (sym (ap (λ (b : Answer). b .count) (g .0))) (gives-count (a .service) (a .reading) (now (a .text)) (length (now (a .out)))))
 
 enum-told : tie.Need-enum-told
@@ -57,9 +57,9 @@ returns c =
     let named = told .before .before in
     let a = named .before .before .before .args in
     let n = sym (named .named-service .ensures) ∙ told .service .given .1 in
-    let g = gives-settled (a .service) (a .reading) _ n (now (a .text)) (now (a .out)) in (
-      c .message-written .ensures ∙ ap messageWrittenAnswer (did .write-settled .ensures .0 ∙ ap (λ (x : Settled). settledWrites x (now (a .text)) (length (now (a .out)))) (asked .settled .ensures)) ∙ g .0,
-      did .write-settled .ensures .1 ∙ ap (λ (x : Settled). settledLeaves x (now (a .text)) (now (a .out))) (asked .settled .ensures) ∙ g .1,
+    let g = gives-coded (a .service) (a .reading) _ n (now (a .text)) (now (a .out)) in (
+      c .message-written .ensures ∙ ap messageWrittenAnswer (did .write-coded .ensures .0 ∙ ap (λ (x : MessageCoding). codedWrites x (now (a .text)) (length (now (a .out)))) (asked .coded .ensures)) ∙ g .0,
+      did .write-coded .ensures .1 ∙ ap (λ (x : MessageCoding). codedLeaves x (now (a .text)) (now (a .out))) (asked .coded .ensures) ∙ g .1,
     )
 
 returns-2 : tie.Need-returns-2
@@ -75,8 +75,8 @@ wikuay-write-message-spec =
     (tie.spec
     named-service-requires
     enum-known-service
-    settled-requires
-    write-settled-requires
+    coded-requires
+    write-coded-requires
     message-written-requires
     enum-told
     refused-requires

@@ -1,5 +1,7 @@
 -- `hears` meets its contract: plain text by its octet, the rest by its reading. Assumes nothing.
+use Rattle.names.proofs.Settled.{plain-reading-heard}
 use Rattle.names.specs.Said.{heardBy}
+use mathlib.Core.Bool.{true, false}
 use mathlib.Core.Path.{ap, sym, _∙_}
 use borrow.Author.Needs.{needs}
 use Rattle.names.proofs.said.hears.Statement.{statement}
@@ -12,7 +14,7 @@ plain-heard-requires : tie.Need-plain-heard-requires
 plain-heard-requires c κs = search needs
 
 returns : tie.Need-returns
-returns c = let tested = c .before in c .plain-heard .ensures ∙ ap (heardBy _) (sym (tested .before .is-plain .ensures (tested .if1 .taken)))
+returns c = let tested = c .before in c .plain-heard .ensures ∙ plain-reading-heard (tested .before .before .args .service) false ∙ ap (heardBy _) (sym (tested .before .is-plain .ensures (tested .if1 .taken)))
 
 is-plain-requires-2 : tie.Need-is-plain-requires-2
 is-plain-requires-2 c κs = search needs
@@ -21,7 +23,7 @@ plain-heard-requires-2 : tie.Need-plain-heard-requires-2
 plain-heard-requires-2 c κs = search needs
 
 returns-2 : tie.Need-returns-2
-returns-2 c = let tested = c .before in c .plain-heard2 .ensures ∙ ap (heardBy _) (sym (tested .before .is-plain2 .ensures (tested .if2 .taken)))
+returns-2 c = let tested = c .before in c .plain-heard2 .ensures ∙ plain-reading-heard (tested .before .before .before .before .args .service) true ∙ ap (heardBy _) (sym (tested .before .is-plain2 .ensures (tested .if2 .taken)))
 
 read-octet-requires : tie.Need-read-octet-requires
 read-octet-requires c κs = search needs
@@ -29,14 +31,14 @@ read-octet-requires c κs = search needs
 enum-known-reading : tie.Need-enum-known-reading
 enum-known-reading c = search needs
 
-reading-heard-requires : tie.Need-reading-heard-requires
-reading-heard-requires c κs = search needs
+coded-heard-requires : tie.Need-coded-heard-requires
+coded-heard-requires c κs = search needs
 
 enum-known-refusal : tie.Need-enum-known-refusal
 enum-known-refusal c = search needs
 
 returns-3 : tie.Need-returns-3
-returns-3 c = let told = c .before .before in c .reading-heard .ensures ∙ ap (heardBy _) (sym (told .reading .given .1) ∙ told .before .before .read-octet .ensures)
+returns-3 c = let told = c .before .before in c .coded-heard .ensures ∙ ap (heardBy _) (sym (told .reading .given .1) ∙ told .before .before .read-octet .ensures)
 
 returns-4 : tie.Need-returns-4
 returns-4 c = let told = c .before in ap (heardBy _) (sym (told .refusal .given .1) ∙ told .before .before .read-octet .ensures)
@@ -53,7 +55,7 @@ hears-spec =
     returns-2
     read-octet-requires
     enum-known-reading
-    reading-heard-requires
+    coded-heard-requires
     enum-known-refusal
     returns-3
     returns-4)
