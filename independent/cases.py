@@ -38,6 +38,8 @@ WORDS = (
     ("kind", ("voicemail", "fax", "mail", "other")),
     ("prefix", ("prefix",)),
     ("reserved", ("reserved",)),
+    ("letter1", tuple("letter1:%02X" % octet for octet in range(1, 256))),
+    ("letter2", tuple("letter2:%02X" % octet for octet in range(1, 256))),
 )
 
 
@@ -56,9 +58,11 @@ def parse_reading(value):
     if None in parts and parts != [None, None, None]:
         raise NotACase
     notice = Notice(parts[0], parts[1] == "active", parts[2]) if parts[0] else None
+    letters = [int(said[field][-2:], 16) if field in said else 0 for field in ("letter1", "letter2")]
     return Reading(alphabet=said.get("alphabet", wikuay.SEVEN), compressed="compressed" in said,
                    message_class=said.get("class"), language=said.get("language"), deletion="deletion" in said,
-                   notice=notice, prefix="prefix" in said, reserved="reserved" in said)
+                   notice=notice, prefix="prefix" in said, reserved="reserved" in said, letter1=letters[0],
+                   letter2=letters[1])
 
 
 def print_reading(reading):
@@ -79,6 +83,10 @@ def print_reading(reading):
         words.append("prefix")
     if reading.reserved:
         words.append("reserved")
+    if reading.letter1:
+        words.append("letter1:%02X" % reading.letter1)
+    if reading.letter2:
+        words.append("letter2:%02X" % reading.letter2)
     return "+".join(words) or "plain"
 
 

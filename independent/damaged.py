@@ -5,8 +5,8 @@
 Every answer is stated by rule, with independent/rules.py. None comes from the second implementation.
 """
 
-from rules import (ALPHABET, CODINGS, CR, EXTENSION, PLAIN_CODING, accepted, bits_of, octets_of, old_page, packed, reading,
-                   refused, text_held, ucs2, units)
+from rules import (ALPHABET, CODINGS, CR, EXTENSION, PLAIN_CODING, accepted, bits_of, message_held, octets_of, old_page,
+                   packed, reading, refused, text_held, ucs2, units)
 
 HEADER = """\
 # Damaged and odd input against document 01: written by independent/damaged.py. The answer of every line is stated
@@ -46,7 +46,7 @@ def all_codings():
             label = "dcs-read-%s-%02X" % (service, octet)
             inputs = {"service": service, "coding": octet, "count": 2 if service == "sms" else 0, "octets": octets,
                       "room": 41}
-            held = text_held(words)
+            held = message_held(service, words)  # A and B are no language letters
             if held in ("7bit", "ucs2"):
                 accepted(label, "read-message", inputs, reading=reading(words), out=seven if held == "7bit" else wide)
             else:
@@ -99,7 +99,7 @@ def written_codings():
         for number, words in enumerate(every):
             label = "write-one-%s-%d" % (service, number)
             inputs = {"service": service, "reading": reading(words), "text": [A], "room": 82}
-            held = text_held(words)
+            held = message_held(service, words)
             if words == "reserved" or words not in table:
                 refused(label, "write-message", inputs, 8)
             elif held == "7bit":

@@ -241,7 +241,7 @@ def rooms():
 
 def pairs():
     bad = [A] * 300 + [HAN]                # deserves 6 at 300, and 5
-    print("\n# Pairs of the whole writer: 8, 1, 2, 3, 6, 5, 7.")
+    print("\n# Pairs of the whole writer: 8, 1, 2, 3, 6, 5, 7; a broadcast has 11 in the place of 3.")
     for earlier, later, service, words, text, room, position in (
             (8, 1, "ussd", "compressed+deletion", [A], 160, 0),
             (8, 1, "sms", "compressed+reserved", [A], 160, 0),
@@ -291,9 +291,10 @@ def pairs():
             (5, 7, "broadcast", "ucs2", [HAN] * 42, 82, 0),
             (5, 7, "ussd", "ucs2", [HAN] * 81, 0, 0)):
         refused(pair_label("write", earlier, later), "write-message",
-                {"service": service, "reading": reading(words), "text": text, "room": room}, earlier, position)
+                {"service": service, "reading": reading(words), "text": text, "room": room},
+                11 if earlier == 3 and service == "broadcast" else earlier, position)
 
-    print("\n# Pairs of the whole reader: 1, 2, 3, 4, 7. No octet deserves 1 and 3, or 2 and 3.")
+    print("\n# Pairs of the whole reader: 1, 2, 3, 4, 7; a broadcast 1, 2, 4, 11, 7. No octet deserves 1 and 3, or 2 and 3.")
     two = [0x41, 0x21]
     for earlier, later, service, coding, count, octets, room in (
             (1, 2, "sms", 0x24, 2, two, 160),
@@ -320,7 +321,8 @@ def pairs():
             (4, 7, "ussd", 0x48, 0, two + [0], 0),
             (4, 7, "old", 0x00, 0, [A] * 83, 0)):
         refused(pair_label("read", earlier, later), "read-message",
-                {"service": service, "coding": coding, "count": count, "octets": octets, "room": room}, earlier)
+                {"service": service, "coding": coding, "count": count, "octets": octets, "room": room},
+                {4: 4, 7: 11}[later] if earlier == 3 and service == "broadcast" else earlier)
 
     print("\n# Pairs of packing alone: 8, 9, 5, 7.")
     for earlier, later, service, septets, room, position in (
@@ -360,7 +362,7 @@ PAIRS = {}
 
 
 def pair_label(call, earlier, later):
-    """pair-CALL-EARLIER-LATER, and a number for each further one."""
+    """pair-CALL-EARLIER-LATER, and a number for each further one. A label that names a broadcast's 3 is from before W2."""
     name = "pair-%s-%d-%d" % (call, earlier, later)
     PAIRS[name] = PAIRS.get(name, 0) + 1
     return name if PAIRS[name] == 1 else "%s-%d" % (name, PAIRS[name])

@@ -3,8 +3,8 @@
 Lengths keep to both sides of the limits, and inputs are for the most part nearly right: a valid input with one thing
 changed reaches further into a call than noise does.
 
-The calls of the base and those of several pages have a stream each, so that a stream's cases do not change when the
-other grows.
+The base, several pages and language letters have a stream each, so that a stream's cases do not change when another
+grows.
 """
 
 import itertools
@@ -420,6 +420,86 @@ def random_page_case(rng, label):
 
 
 # ---------------------------------------------------------------------------------------------------------------------
+# Language letters in front of the text
+
+LETTER_WEIGHTS = {"write-message": 9, "read-message": 9, "write-coding": 1, "holds-text": 1, "count-pages": 1,
+                  "build-page": 1, "write-pages": 1, "join-pages": 1}
+
+# The lengths around what a page holds behind its letters.
+LETTER_SEPTETS = (0, 1, 2, 88, 89, 90, 90, 91, 92, 93)
+LETTER_UNITS = (0, 1, 2, 38, 39, 40, 40, 41, 42)
+
+
+def random_letter(rng):
+    """Most often one of a to z. 0 is a letter that is absent."""
+    if rng.random() < 0.88:
+        return rng.randrange(0x61, 0x7B)
+    return rng.choice((0x00, 0x00, 0x60, 0x7B, 0x41, 0x5A, 0x80, 0xE1, rng.randrange(256)))
+
+
+def with_letters(rng, reading):
+    return reading._replace(letter1=random_letter(rng), letter2=random_letter(rng))
+
+
+def random_lettered_reading(rng, service):
+    """Most often one with the prefix mark."""
+    if rng.random() < 0.85:
+        return with_letters(rng, Reading(alphabet=rng.choice((wikuay.SEVEN, wikuay.UCS2)), prefix=True))
+    return with_letters(rng, random_reading(rng, service))
+
+
+def random_lettered_text(rng, alphabet):
+    if alphabet == wikuay.UCS2:
+        return random_ucs2_text(rng, rng.choice(LETTER_UNITS + (rng.randrange(41),)))
+    return random_text(rng, rng.choice(LETTER_SEPTETS + (rng.randrange(91),)))
+
+
+def random_lettered_page(rng, alphabet):
+    """The 82 octets of a page with letters, which are now and then wrong, as is the CR behind them."""
+    letters = [random_letter(rng) & 127, random_letter(rng) & 127]
+    if alphabet == wikuay.UCS2:
+        text = random_ucs2_text(rng, rng.choice((0, 1, 39, 40, rng.randrange(41))))
+        front = wikuay.packed(letters)
+        front[1] |= rng.choice((0, 0, 0x40, 0x80, 0xC0))
+        return front + wikuay.ucs2_octets(wikuay.BROADCAST, text)[:80]
+    third = wikuay.CR if rng.random() < 0.93 else rng.randrange(128)
+    septets = random_septets(rng, rng.choice((0, 1, 89, 90, rng.randrange(91))))
+    octets = wikuay.packed(wikuay.broadcast_filled(letters + [third] + septets))
+    return with_spare_bits(rng, 93, octets) if rng.random() < 0.3 else octets
+
+
+def random_letter_inputs(rng, call):
+    if call == "join-pages":
+        coding, total = rng.choice((0x10, 0x11)), rng.choice((1, 1, 2))
+        alphabet = wikuay.reading_of(wikuay.BROADCAST, coding).alphabet
+        return {"octets": [octet for number in range(1, total + 1) for octet in
+                           wikuay.block_of(1, 2, coding, total, number, random_lettered_page(rng, alphabet))]}
+    if call in PAGE_WEIGHTS:
+        inputs = random_page_inputs(rng, call)
+        if rng.random() < 0.5:
+            return {**inputs, "reading": random_lettered_reading(rng, wikuay.BROADCAST)}
+        return {**inputs, "reading": with_letters(rng, inputs["reading"])}
+    service = rng.choices(wikuay.SERVICES, (1, 20, 2, 1))[0]
+    if call == "holds-text":
+        return {"reading": random_lettered_reading(rng, service)}
+    if call == "write-coding":
+        return {"service": service, "reading": random_lettered_reading(rng, service)}
+    if call == "write-message":
+        reading = random_lettered_reading(rng, service)
+        return {"service": service, "reading": reading, "text": random_lettered_text(rng, reading.alphabet)}
+    coding = rng.choice((0x10, 0x11)) if rng.random() < 0.95 else rng.choice((0x0F, 0x12, 0x48))
+    octets, count = random_lettered_page(rng, wikuay.UCS2 if coding in (0x11, 0x48) else wikuay.SEVEN), 0
+    if rng.random() < 0.1:
+        octets, count = damaged(rng, octets, count)
+    return {"service": service, "coding": coding, "count": count, "octets": octets}
+
+
+def random_letter_case(rng, label):
+    call = rng.choices(tuple(LETTER_WEIGHTS), tuple(LETTER_WEIGHTS.values()))[0]
+    return case_of(rng, label, call, random_letter_inputs(rng, call))
+
+
+# ---------------------------------------------------------------------------------------------------------------------
 # The streams
 
 def base_cases(seed):
@@ -434,8 +514,14 @@ def page_cases(seed):
         yield random_page_case(rng, "random-pages-%d-%d" % (seed, n))
 
 
+def letters_cases(seed):
+    rng = random.Random("letters %d" % seed)
+    for n in itertools.count(1):
+        yield random_letter_case(rng, "random-letters-%d-%d" % (seed, n))
+
+
 def random_cases(number, seed):
-    """Both streams, mixed: each fourth case is one of several pages."""
-    base, pages = base_cases(seed), page_cases(seed)
+    """All streams, mixed: each fourth case is one of several pages or of language letters, in turn."""
+    base, requests = base_cases(seed), itertools.cycle((page_cases(seed), letters_cases(seed)))
     for n in range(1, number + 1):
-        yield next(base if n % 4 else pages)
+        yield next(base if n % 4 else next(requests))

@@ -12,32 +12,34 @@ import itertools
 import sys
 
 import damaged
+import letters
 import limits
 import pages
 import published
 import standard
-from random_cases import base_cases, page_cases
+from random_cases import base_cases, letters_cases, page_cases
 
-RANDOM_CASES, RANDOM_PAGE_CASES, RANDOM_SEED = 3000, 500, 23038
+RANDOM_SEED = 23038
+
+# Each stream and how many of its cases are taken. A later stream stands behind, so that every line keeps its place.
+RANDOM_STREAMS = ((base_cases, 3000), (page_cases, 500), (letters_cases, 400))
 
 RANDOM_HEADER = """\
-# Random cases, %d of the base and then %d of several pages: the first of cases.py --random 4000 --seed %d
+# Random cases, %d of the base, %d of several pages and %d of letters: the first of cases.py --random 4000 --seed %d
 # Every answer comes from the second implementation. These lines show that two programs agree, and not which is right.
 
-""" % (RANDOM_CASES, RANDOM_PAGE_CASES, RANDOM_SEED)
+""" % (*(number for _, number in RANDOM_STREAMS), RANDOM_SEED)
 
 
 def random_file():
-    """The base's lines stand first, so that they keep their places."""
     print(RANDOM_HEADER, end="")
-    for line in itertools.islice(base_cases(RANDOM_SEED), RANDOM_CASES):
-        print(line)
-    for line in itertools.islice(page_cases(RANDOM_SEED), RANDOM_PAGE_CASES):
-        print(line)
+    for stream, number in RANDOM_STREAMS:
+        for line in itertools.islice(stream(RANDOM_SEED), number):
+            print(line)
 
 
 WRITERS = {"standard": standard.main, "published": published.main, "limits": limits.main, "damaged": damaged.main,
-           "pages": pages.main, "random": random_file}
+           "pages": pages.main, "letters": letters.main, "random": random_file}
 
 
 def written_by(writer):

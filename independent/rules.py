@@ -1,4 +1,4 @@
-"""Document 01's rules once more, in another form, for the programs that write vectors.
+"""The rules of documents 01 and 02 once more, in another form, for the programs that write vectors.
 
 Nothing here calls the second implementation: the alphabet is characters and not numbers, packing is a string of bits,
 and a data coding octet is a pattern of eight bits. Of cases.py only the spelling of a case is used.
@@ -155,3 +155,9 @@ def text_held(words):
     if "prefix" in parts:
         return 3
     return "ucs2" if "ucs2" in parts else "7bit"
+
+
+def message_held(service, words):
+    """As text_held, of a whole message that has no language letters: on a broadcast 11 stands in the place of 3."""
+    held = text_held(words)
+    return 11 if held == 3 and service == "broadcast" else held

@@ -73,6 +73,19 @@ class Format(unittest.TestCase):
                 reading = wikuay.reading_of(service, octet)
                 self.assertEqual(cases.parse_reading(cases.print_reading(reading)), reading)
 
+    def test_letters_of_a_reading(self):
+        for words, reading in (("letter1:01", wikuay.Reading(letter1=1)), ("letter2:FF", wikuay.Reading(letter2=255)),
+                               ("ucs2+prefix+letter1:65+letter2:6E",
+                                wikuay.Reading(alphabet="ucs2", prefix=True, letter1=0x65, letter2=0x6E)),
+                               ("german+reserved+letter2:41",
+                                wikuay.Reading(language="german", reserved=True, letter2=0x41))):
+            self.assertEqual(cases.parse_reading(words), reading)
+            self.assertEqual(cases.print_reading(reading), words)
+        for words in ("letter1:00", "letter1:6", "letter1:6e", "letter1:065", "letter1:", "letter1", "letter1=65",
+                      "letter3:65", "letter:65", "Letter1:65", "letter1:65+letter1:65", "letter2:6E+letter1:65",
+                      "letter1:65+prefix", "letter2:6E+reserved", "plain+letter1:65", "letter1:65+", "letter1:656E",
+                      "letter1:-"):
+            self.assertRaises(cases.NotACase, cases.parse_reading, words)
 
     def test_blocks_and_pairs(self):
         self.assertEqual(cases.parse_block("00" * 87 + "FF"), [0] * 87 + [0xFF])
@@ -94,10 +107,11 @@ class Format(unittest.TestCase):
 
 
 class Random(unittest.TestCase):
-    def test_each_fourth_case_is_one_of_several_pages(self):
-        labels = [line.split(" ", 1)[0] for line in random_cases.random_cases(8, 7)]
+    def test_each_fourth_case_is_one_of_a_request(self):
+        labels = [line.split(" ", 1)[0] for line in random_cases.random_cases(12, 7)]
         self.assertEqual(labels, ["random-7-1", "random-7-2", "random-7-3", "random-pages-7-1",
-                                  "random-7-4", "random-7-5", "random-7-6", "random-pages-7-2"])
+                                  "random-7-4", "random-7-5", "random-7-6", "random-letters-7-1",
+                                  "random-7-7", "random-7-8", "random-7-9", "random-pages-7-2"])
 
     def test_all_calls_come(self):
         came = {line.split(" ")[1] for line in random_cases.random_cases(400, 1)}

@@ -1,4 +1,4 @@
-"""Unit tests of the second implementation against document 01 and W1 of document 02.
+"""Unit tests of the second implementation against document 01 and W1 and W2 of document 02.
 
     python3 -m unittest discover independent
 
@@ -321,7 +321,7 @@ class WholeWriter(Case):
         self.refuses(8, 0, write, SMS, Reading(compressed=True, reserved=True), text, room=0)
         self.refuses(1, 0, write, SMS, Reading(alphabet="8bit", compressed=True), text, room=0)
         self.refuses(2, 0, write, BROADCAST, Reading(alphabet="wap"), text, room=0)
-        self.refuses(3, 0, write, BROADCAST, Reading(prefix=True), text, room=0)
+        self.refuses(3, 0, write, USSD, Reading(prefix=True), text, room=0)
         self.refuses(6, 300, write, BROADCAST, PLAIN, text, room=0)
         self.refuses(5, 0, write, BROADCAST, PLAIN, [A] * 300, room=0)
         self.refuses(7, 0, write, BROADCAST, PLAIN, [A], room=81)
@@ -546,6 +546,126 @@ class JoiningPages(Case):
         self.lacks(block(0x12, A_PAGE, "1234567811"), block(0x22, A_PAGE), number=3)
         self.refuses(10, 0, join, block(0x12, A_PAGE), room=0)
         self.refuses(7, 0, join, block(0x12, FULL_PAGE) + block(0x22, A_PAGE), room=93)
+
+
+SEVEN_EN = Reading(prefix=True, letter1=0x65, letter2=0x6E)
+UCS2_EN = Reading(alphabet="ucs2", prefix=True, letter1=0x65, letter2=0x6E)
+
+# 65, then 6E shifted by 7 and a CR shifted by 14, change the first two octets of the empty page to 65 77. "A" behind them
+# closes the third octet, and its high half begins the fourth.
+EN_EMPTY = octets("6577") + EMPTY_PAGE[2:]
+EN_A = octets("657723D8") + EMPTY_PAGE[4:]
+EN_FULL = octets("657723") + FULL_PAGE[3:]
+NO_LETTERS = (0x00, 0x01, 0x0D, 0x41, 0x5A, 0x60, 0x7B, 0x7F)
+
+
+class Letters(Case):
+    def writes(self, reading, text, coding, out):
+        self.accepts(wikuay.write_message, BROADCAST, reading, text, room=83, out=out, count=0, coding=coding)
+
+    def reads(self, coding, page, text, reading):
+        self.accepts(wikuay.read_message, BROADCAST, coding, 0, page, room=len(text) + 1, out=text, reading=reading)
+
+    def lacks(self, coding, page):
+        self.refuses(11, 0, wikuay.read_message, BROADCAST, coding, 0, page, room=99)
+
+    def test_seven_bit(self):
+        for text, page in (([], EN_EMPTY), ([A], EN_A), ([A] * 90, EN_FULL)):
+            self.writes(SEVEN_EN, text, 0x10, page)
+            self.reads(0x10, page, text, SEVEN_EN)
+        self.refuses(5, 0, wikuay.write_message, BROADCAST, SEVEN_EN, [A] * 91, room=82)
+        self.refuses(5, 0, wikuay.write_message, BROADCAST, SEVEN_EN, [A] * 89 + [EURO], room=82)
+
+    def test_ucs2(self):
+        for text, page in (([], octets("6537" + "000D" * 40)), ([HAN], octets("6537" + "4E2D" + "000D" * 39)),
+                           ([HAN] * 40, octets("6537" + "4E2D" * 40))):
+            self.writes(UCS2_EN, text, 0x11, page)
+            self.reads(0x11, page, text, UCS2_EN)
+        self.refuses(5, 0, wikuay.write_message, BROADCAST, UCS2_EN, [HAN] * 41, room=82)
+
+    def test_the_second_letter_begins_in_the_first_octet(self):
+        for (letter1, letter2), front in ((units("ea"), "E530"), (units("az"), "613D"), (units("zy"), "FA3C")):
+            reading, page = UCS2_EN._replace(letter1=letter1, letter2=letter2), octets(front + "000D" * 40)
+            self.writes(reading, [], 0x11, page)
+            self.reads(0x11, page, [], reading)
+
+    def test_closing_crs_are_dropped_behind_the_letters(self):
+        self.writes(SEVEN_EN, [CR] * 90, 0x10, EN_EMPTY)
+        self.writes(SEVEN_EN, [A, CR, CR], 0x10, EN_A)
+        self.writes(UCS2_EN, [CR] * 40, 0x11, octets("6537" + "000D" * 40))
+        # A CR in front of "A", whose low four bits close the fourth octet and whose high three begin the fifth.
+        self.reads(0x10, octets("6577A3116C") + EMPTY_PAGE[5:], [CR, A], SEVEN_EN)
+        self.reads(0x11, octets("6537" + "000D" + "4E2D" + "000D" * 38), [CR, HAN], UCS2_EN)
+
+    def test_an_escape_in_front_of_filling_is_a_space(self):
+        # 1B in place of "A": 03 and the low three bits 011 are 63, the high four 0011 and the low four of a CR are D3.
+        self.reads(0x10, octets("657763D3") + EMPTY_PAGE[4:], units(" "), SEVEN_EN)
+
+    def test_spare_bits_are_ignored(self):
+        self.reads(0x10, EN_A[:-1] + [0xF8], [A], SEVEN_EN)
+        for octet in (0x77, 0xB7, 0xF7):
+            self.reads(0x11, [0x65, octet] + octets("000D" * 40), [], UCS2_EN)
+
+    def test_letters_that_are_none(self):
+        for letter in NO_LETTERS + (0x80, 0xE1, 0xFF):
+            for reading in (SEVEN_EN, UCS2_EN):
+                for wrong in (reading._replace(letter1=letter), reading._replace(letter2=letter)):
+                    self.refuses(11, 0, wikuay.write_message, BROADCAST, wrong, [A], room=82)
+        for letter in NO_LETTERS:
+            for letters in ([letter, 0x6E], [0x65, letter]):
+                front = [letters[0] + 128 * (letters[1] % 2), letters[1] // 2]
+                self.lacks(0x10, [front[0], front[1] + 0x40] + EMPTY_PAGE[2:])
+                self.lacks(0x11, front + octets("000D" * 40))
+
+    def test_the_cr_is_missing(self):
+        for front in ("6537A0", "65B7A2", "6577AB"):  # 00, 0A and 2D behind the letters
+            self.lacks(0x10, octets(front) + EMPTY_PAGE[3:])
+        self.lacks(0x10, EMPTY_PAGE)
+
+    def test_other_codings_have_no_letters(self):
+        for letters in ({"letter1": 0x65}, {"letter2": 0x6E}, {"letter1": 0x65, "letter2": 0x6E}, {"letter2": 0xFF}):
+            for service in (SMS, BROADCAST, USSD, OLD):
+                for reading in (PLAIN, UCS2, Reading(compressed=True), Reading(alphabet="8bit")):
+                    self.refuses(8, 0, wikuay.write_message, service, reading._replace(**letters), [HAN] * 300, room=0)
+            for reading in (PLAIN, UCS2, Reading(language="german")):
+                self.refuses(8, 0, wikuay.count_pages, reading._replace(**letters), [A])
+                self.refuses(8, 0, wikuay.build_page, 1, 2, reading._replace(**letters), [A], 0)
+                self.refuses(8, 0, wikuay.write_pages, 1, 2, reading._replace(**letters), [A], room=0)
+
+    def test_ussd_and_several_pages_give_3(self):
+        for reading in (SEVEN_EN, UCS2_EN, SEVEN_EN._replace(letter1=0), UCS2_EN._replace(letter2=0x41)):
+            self.refuses(3, 0, wikuay.write_message, USSD, reading, [A], room=0)
+            self.refuses(3, 0, wikuay.count_pages, reading, [A])
+            self.refuses(3, 0, wikuay.build_page, 1, 2, reading, [A], 0)
+            self.refuses(3, 0, wikuay.write_pages, 1, 2, reading, [A], room=0)
+        self.refuses(3, 0, wikuay.read_message, USSD, 0x10, 0, EN_A, room=99)
+        self.refuses(3, 0, wikuay.join_pages, block(0x11, EN_A, "1234567810"), room=99)
+
+    def test_data_coding_alone_looks_past_letters(self):
+        self.assertEqual(wikuay.read_coding(BROADCAST, 0x10), {"reading": Reading(prefix=True)})
+        for letters in ({"letter1": 0x65, "letter2": 0x6E}, {"letter1": 0xFF}, {"letter2": 0x01}):
+            for service, reading, octet in ((BROADCAST, SEVEN_EN, 0x10), (USSD, UCS2_EN, 0x11), (BROADCAST, PLAIN, 0x0F),
+                                            (SMS, UCS2, 0x08), (USSD, Reading(language="german"), 0x00)):
+                self.assertEqual(wikuay.write_coding(service, reading._replace(**letters)), {"coding": octet})
+            self.assertEqual(wikuay.holds_text(UCS2._replace(**letters)), {"holds": "ucs2"})
+            self.refuses(3, 0, wikuay.holds_text, SEVEN_EN._replace(**letters))
+            self.refuses(8, 0, wikuay.write_coding, SMS, SEVEN_EN._replace(**letters))
+
+    def test_refusals_in_order(self):
+        write, text = wikuay.write_message, [A] * 91 + [HAN]
+        self.refuses(8, 0, write, BROADCAST, Reading(language="german", prefix=True, letter1=0x41), text, room=0)
+        self.refuses(8, 0, write, SMS, SEVEN_EN, text, room=0)
+        self.refuses(11, 0, write, BROADCAST, Reading(prefix=True), text, room=0)
+        self.refuses(11, 0, write, BROADCAST, UCS2_EN._replace(letter2=0), text, room=0)
+        self.refuses(6, 91, write, BROADCAST, SEVEN_EN, text, room=0)
+        self.refuses(5, 0, write, BROADCAST, SEVEN_EN, text[:-1], room=0)
+        self.refuses(5, 0, write, BROADCAST, UCS2_EN, text, room=0)
+        self.refuses(7, 0, write, BROADCAST, UCS2_EN, [HAN], room=81)
+        read = wikuay.read_message
+        self.refuses(4, 0, read, BROADCAST, 0x10, 0, EMPTY_PAGE[:81], room=0)
+        self.refuses(4, 0, read, BROADCAST, 0x11, 82, EMPTY_PAGE, room=0)
+        self.refuses(11, 0, read, BROADCAST, 0x10, 0, FULL_PAGE, room=0)
+        self.refuses(7, 0, read, BROADCAST, 0x10, 0, EN_A, room=0)
 
 
 if __name__ == "__main__":

@@ -1,10 +1,10 @@
-"""A second implementation of Wikuay, the base and W1 of document 02, written from documents 01 and 02 and the settled
-readings of them, without sight of the Rattle code.
+"""A second implementation of Wikuay, the base and W1 and W2 of document 02, written from documents 01 and 02 and the
+settled readings of them, without sight of the Rattle code.
 
-It follows document 01 section by section, then W1, and does everything in the plainest way. The fourteen calls at the
-end are what the cases run. Each answers with a dictionary; one with a longer result stores it in a buffer that the
-caller lends, a list. A block of 88 octets is a list that is handed over by value. A call that refuses raises Refused,
-and has then stored nothing.
+It follows document 01 section by section, then W1 and W2, and does everything in the plainest way. The fourteen calls
+at the end are what the cases run. Each answers with a dictionary; one with a longer result stores it in a buffer that
+the caller lends, a list. A block of 88 octets is a list that is handed over by value. A call that refuses raises
+Refused, and has then stored nothing.
 """
 
 from functools import lru_cache
@@ -59,6 +59,8 @@ class Reading(NamedTuple):
     notice: Notice = None
     prefix: bool = False
     reserved: bool = False
+    letter1: int = 0  # the language letters in front of the text, each 0 where it is absent
+    letter2: int = 0
 
 
 PLAIN = Reading()
@@ -148,10 +150,10 @@ def smallest_octet(service, reading):
 
 
 def octet_of(service, reading):
-    """The octet that is written for a reading."""
+    """The octet that is written for a reading. It says nothing of the language letters."""
     if service == OLD or reading.reserved:
         raise Refused(8)
-    octet = smallest_octet(service, reading)
+    octet = smallest_octet(service, reading._replace(letter1=0, letter2=0))
     if octet is None:
         raise Refused(8)
     return octet
@@ -394,6 +396,60 @@ def joined_text(alphabet, blocks):
 
 
 # ---------------------------------------------------------------------------------------------------------------------
+# Language letters in front of the text (document 02, W2)
+
+LETTERED_SEPTETS, LETTERED_UNITS = 90, 40  # what a page holds behind its letters
+
+
+def message_octet(service, reading):
+    """The octet of text that is written. Refusal 8, also for letters in a coding without the prefix mark."""
+    if not reading.prefix and (reading.letter1 or reading.letter2):
+        raise Refused(8)
+    return octet_of(service, reading)
+
+
+def message_text(service, reading):
+    """Which text a message of one page holds. Only a broadcast page holds text behind letters."""
+    return text_of(reading._replace(prefix=False) if service == BROADCAST else reading)
+
+
+def is_lettered(service, reading):
+    return service == BROADCAST and reading.prefix
+
+
+def check_letters(letters):
+    """Refusal 11: each letter is there, and is one of a to z."""
+    for letter in letters:
+        if letter < 0x61 or letter > 0x7A:
+            raise Refused(11)
+
+
+def lettered_octets(reading, text):
+    """The 82 octets of a page with letters: CR stands behind them in 7-bit, and two zero bits in UCS2. 11, 6, 5."""
+    letters = [reading.letter1, reading.letter2]
+    check_letters(letters)
+    if reading.alphabet == UCS2:
+        check_size(len(text), LETTERED_UNITS)
+        return packed(letters) + ucs2_octets(BROADCAST, text)[:80]
+    content = septets_of(text)
+    check_size(len(content), LETTERED_SEPTETS)
+    return packed_for(BROADCAST, letters + [CR] + content)
+
+
+def lettered_text(alphabet, octets):
+    """The two letters of a page and the text behind them. Closing CRs are dropped behind the letters only. 11."""
+    if alphabet == UCS2:
+        letters = unpacked(octets[:2], 2)
+        check_letters(letters)
+        return letters, without_closing(all_units(octets[2:]), CR)
+    septets = unpacked(octets, 93)
+    check_letters(septets[:2])
+    if septets[2] != CR:
+        raise Refused(11)
+    return septets[:2], units_of(without_closing(septets[3:], CR))
+
+
+# ---------------------------------------------------------------------------------------------------------------------
 # Refusals
 
 def check_octets(service, alphabet, octets, count):
@@ -472,11 +528,15 @@ def septets_to_text(septets, out):
 
 
 def read_message(service, coding, count, octets, out):
-    """1, 2, 3, 4, 7. The old page's own 2 stands in the place of 2: its coding holds no other refusal."""
+    """1, 2, 3, 4, 11, 7: 3 is not a broadcast's, and 11 is no other's. The old page's own 2 stands in the place of 2: its
+    coding holds no other refusal."""
     reading = reading_of(service, coding)
-    alphabet = text_of(reading)
+    alphabet = message_text(service, reading)
     check_octets(service, alphabet, octets, count)
-    if alphabet == UCS2:
+    if is_lettered(service, reading):
+        (letter1, letter2), text = lettered_text(alphabet, octets)
+        reading = reading._replace(letter1=letter1, letter2=letter2)
+    elif alphabet == UCS2:
         text = ucs2_units(service, octets)
     elif service == OLD:
         text = old_units_of(unpacked_for(service, octets, count))
@@ -486,9 +546,13 @@ def read_message(service, coding, count, octets, out):
 
 
 def write_message(service, reading, text, out):
-    """8, 1, 2, 3, 6, 5, 7."""
-    coding = octet_of(service, reading)
-    if text_of(reading) == UCS2:
+    """8, 1, 2, 3 (11 on a broadcast), 6, 5, 7."""
+    coding = message_octet(service, reading)
+    alphabet = message_text(service, reading)
+    if is_lettered(service, reading):
+        octets = lettered_octets(reading, text)
+        count = 0
+    elif alphabet == UCS2:
         check_size(len(text), UNITS[service])
         octets = ucs2_octets(service, text)
         count = len(octets)
@@ -508,13 +572,13 @@ def read_header(block):
 
 def count_pages(reading, text):
     """8, 1, 2, 3, 6, 5."""
-    octet_of(BROADCAST, reading)
+    message_octet(BROADCAST, reading)
     return {"pages": len(pages_of(text_of(reading), text))}
 
 
 def build_page(sequence, identifier, reading, text, number):
     """8, 1, 2, 3, 6, 5, 10."""
-    coding = octet_of(BROADCAST, reading)
+    coding = message_octet(BROADCAST, reading)
     pages = pages_of(text_of(reading), text)
     if number < 1 or number > len(pages):
         raise Refused(10)
@@ -524,7 +588,7 @@ def build_page(sequence, identifier, reading, text, number):
 
 def write_pages(sequence, identifier, reading, text, out):
     """8, 1, 2, 3, 6, 5, 7."""
-    coding = octet_of(BROADCAST, reading)
+    coding = message_octet(BROADCAST, reading)
     pages = pages_of(text_of(reading), text)
     octets = []
     for number, page in enumerate(pages, 1):

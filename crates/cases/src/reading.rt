@@ -2,13 +2,14 @@
 use crate::values::end_at;
 use crate::values::more;
 use crate::values::nth;
+use crate::values::octet_of;
 use crate::values::part;
 use crate::values::place_of;
 use names::ReadingNumbers;
 use printed::put;
 
 // How many words there are.
-const WORDS: usize = 37;
+const WORDS: usize = 39;
 
 pub(crate) fn plain() -> ReadingNumbers {
     ReadingNumbers {
@@ -20,6 +21,8 @@ pub(crate) fn plain() -> ReadingNumbers {
         prefix: 0,
         reserved: 0,
         notice: 0,
+        first: 0,
+        second: 0,
     }
 }
 
@@ -38,12 +41,14 @@ fn says(reading: ReadingNumbers, word: usize) -> bool {
         29..=30 => told && notice / 8 % 2 == 30 - word,
         31..=34 => told && notice % 4 == word - 31,
         35 => reading.prefix == 1,
-        _ => reading.reserved == 1,
+        36 => reading.reserved == 1,
+        37 => reading.first != 0,
+        _ => reading.second != 0,
     }
 }
 
-// The reading with the word; a number that is no word's changes nothing.
-fn with(reading: ReadingNumbers, word: usize) -> ReadingNumbers {
+// The reading with the word, whose octet is that of a language letter; a number that is no word's changes nothing.
+fn with(reading: ReadingNumbers, word: usize, octet: u8) -> ReadingNumbers {
     let mut next = reading;
     let notice = reading.notice % 1024;
     let n = word % 64;
@@ -60,26 +65,35 @@ fn with(reading: ReadingNumbers, word: usize) -> ReadingNumbers {
         31..=34 => next.notice = notice + (n - 31) as u16,
         35 => next.prefix = 1,
         36 => next.reserved = 1,
+        37 => next.first = octet,
+        38 => next.second = octet,
         _ => next.compressed = reading.compressed,
     }
     next
 }
 
-// The words of all fields.
+// The words of all fields, without the octet of a language letter.
 fn word_of(text: &[u8], from: usize, to: usize) -> usize {
     place_of(
-        b"8bit|ucs2|wap|compressed|class0|class1|class2|class3|user1|user2|german|english|italian|french|spanish|dutch|swedish|danish|portuguese|finnish|norwegian|greek|turkish|hungarian|polish|czech|deletion|discard|store|active|inactive|voicemail|fax|mail|other|prefix|reserved|",
+        b"8bit|ucs2|wap|compressed|class0|class1|class2|class3|user1|user2|german|english|italian|french|spanish|dutch|swedish|danish|portuguese|finnish|norwegian|greek|turkish|hungarian|polish|czech|deletion|discard|store|active|inactive|voicemail|fax|mail|other|prefix|reserved|letter1|letter2|",
         part(text, from, to),
     )
 }
 
-// The reading that the words say, in any order. No reading has more than ten.
+// The reading with one more word. Behind a colon stands its octet.
+fn with_word(reading: ReadingNumbers, word: &[u8]) -> ReadingNumbers {
+    let colon = end_at(word, 0, b':');
+    let octet = octet_of(part(word, more(colon), word.len()));
+    with(reading, word_of(word, 0, colon), octet)
+}
+
+// The reading that the words say, in any order. No reading has more than twelve.
 pub(crate) fn reading_of(text: &[u8]) -> ReadingNumbers {
     let mut reading = plain();
     let mut at: usize = 0;
-    for _ in 0..10usize {
+    for _ in 0..12usize {
         let end = end_at(text, at, b'+');
-        reading = with(reading, word_of(text, at, end));
+        reading = with_word(reading, part(text, at, end));
         at = more(end);
     }
     reading
@@ -97,14 +111,26 @@ fn put_word(
         return at;
     }
     let end = put_plus(out, at, start);
-    put(
+    let named = put(
         out,
         end,
         nth(
-            b"8bit|ucs2|wap|compressed|class0|class1|class2|class3|user1|user2|german|english|italian|french|spanish|dutch|swedish|danish|portuguese|finnish|norwegian|greek|turkish|hungarian|polish|czech|deletion|discard|store|active|inactive|voicemail|fax|mail|other|prefix|reserved|",
+            b"8bit|ucs2|wap|compressed|class0|class1|class2|class3|user1|user2|german|english|italian|french|spanish|dutch|swedish|danish|portuguese|finnish|norwegian|greek|turkish|hungarian|polish|czech|deletion|discard|store|active|inactive|voicemail|fax|mail|other|prefix|reserved|letter1:|letter2:|",
             word,
         ),
-    )
+    );
+    put_letter(out, named, reading, word)
+}
+
+// Puts the octet of a language letter behind its word. The other words have none.
+fn put_letter(out: &mut [u8], at: usize, reading: ReadingNumbers, word: usize) -> usize {
+    let first = [reading.first];
+    let second = [reading.second];
+    match word {
+        37 => printed::put_octets(out, at, &first),
+        38 => printed::put_octets(out, at, &second),
+        _ => at,
+    }
 }
 
 fn put_plus(out: &mut [u8], at: usize, start: usize) -> usize {

@@ -132,7 +132,7 @@ fn number_of(word: &[u8]) -> usize {
     }
 }
 
-fn octet_of(word: &[u8]) -> u8 {
+pub(crate) fn octet_of(word: &[u8]) -> u8 {
     let mut one = [0u8; 1];
     typed::read_octets(word, &mut one);
     one[0]

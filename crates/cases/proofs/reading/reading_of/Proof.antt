@@ -5,10 +5,10 @@ use Rattle.cases.proofs.reading.reading_of.Statement.{statement}
 use Rattle.cases.proofs.reading.reading_of.Tie as tie
 
 abbrev Inv-loop : tie.InvT-loop
-Inv-loop text reading₀ at₀ counter₀ reading at counter = counter ≤ 10
+Inv-loop text reading₀ at₀ counter₀ reading at counter = counter ≤ 12
 
 abbrev μ-loop : tie.MeasureT-loop
-μ-loop text reading₀ at₀ counter₀ reading at counter = 10 - counter
+μ-loop text reading₀ at₀ counter₀ reading at counter = 12 - counter
 
 plain-requires : tie.Need-plain-requires Inv-loop μ-loop
 plain-requires c κs = search needs
@@ -19,11 +19,11 @@ loop-holds c = search needs
 end-at-requires : tie.Need-end-at-requires Inv-loop μ-loop
 end-at-requires c κs = search needs
 
-word-of-requires : tie.Need-word-of-requires Inv-loop μ-loop
-word-of-requires c κs = search needs
+part-requires : tie.Need-part-requires Inv-loop μ-loop
+part-requires c κs = search needs
 
-with-requires : tie.Need-with-requires Inv-loop μ-loop
-with-requires c κs = search needs
+with-word-requires : tie.Need-with-word-requires Inv-loop μ-loop
+with-word-requires c κs = search needs
 
 more-requires : tie.Need-more-requires Inv-loop μ-loop
 more-requires c κs = search needs
@@ -49,8 +49,8 @@ reading-of-spec =
     plain-requires
     loop-holds
     end-at-requires
-    word-of-requires
-    with-requires
+    part-requires
+    with-word-requires
     more-requires
     add-counter
     loop-less
