@@ -34,7 +34,9 @@ pub(crate) const IDENTIFIER: usize = 5;
 
 pub(crate) const PAGE: usize = 6;
 
-const JSON: usize = 7;
+pub(crate) const LETTERS: usize = 7;
+
+const JSON: usize = 8;
 
 // No more is typed or read: a text of 15 pages, each of its units in four digits, takes 5,580.
 pub(crate) const MOST: usize = 8192;
@@ -61,6 +63,8 @@ pub(crate) struct Job {
     pub coding: u8,
     // The numbers of --count, --room, --sequence, --identifier and --page.
     pub numbers: [usize; 8],
+    // The letters of --letters as units, or 0.
+    pub letters: [u16; 2],
     // How long the text is, and how many units there are.
     pub len: usize,
     pub units: usize,
@@ -214,7 +218,7 @@ impl Job {
 
     // Whether an option is given.
     pub(crate) fn gives(self, option: usize) -> bool {
-        self.given >> (option % 8) & 1 == 1
+        self.given >> (option % 16) & 1 == 1
     }
 
     // Whether a text is written: one word, or all of the rest of a line.
@@ -247,10 +251,25 @@ impl Job {
         }
     }
 
+    // The value of --letters: two characters, which the library judges. An octet 0 is none.
+    fn lettered(self, word: &[u8], units: &mut [u16]) -> Job {
+        let mut next = self;
+        let mut letters = [0u16; 2];
+        widen(word, &mut letters);
+        next.letters = letters;
+        if word.len() != 2 || wide::first_wide(word) < 2 || letters[0] == 0 || letters[1] == 0 {
+            return self.wrong(fault::LETTERS, word, units);
+        }
+        next
+    }
+
     // The value of an option.
     fn value(self, option: usize, word: &[u8], units: &mut [u16]) -> Job {
         let mut next = self;
         next.waiting = 0;
+        if option == LETTERS {
+            return next.lettered(word, units);
+        }
         if option != CODING && option != UNITS {
             return next.number(option, word, units);
         }
@@ -284,16 +303,16 @@ impl Job {
         let mut next = self;
         let n = end_at(word, 0, b'=', false);
         let option = place_of(
-            b"--coding|--count|--units|--room|--sequence|--identifier|--page|--json|--help|-h|--|",
+            b"--coding|--count|--units|--room|--sequence|--identifier|--page|--letters|--json|--help|-h|--|",
             &word[..n],
         );
         let whole = n == word.len();
-        if 10 < option || (JSON <= option && !whole) {
+        if 11 < option || (JSON <= option && !whole) {
             return self.wrong(fault::OPTION, word, units);
         }
         if JSON < option {
-            next.helps = self.helps || option < 10;
-            next.ended = option == 10;
+            next.helps = self.helps || option < 11;
+            next.ended = option == 11;
             return next;
         }
         let bit = 1u32 << option;
@@ -394,7 +413,7 @@ impl Job {
             self.answers_so(word)
         } else if 0 < waiting {
             if has(word, 0, b'-') {
-                self.fails(fault::VALUE, 1 + waiting % 8)
+                self.fails(fault::VALUE, 1 + waiting % 16)
             } else {
                 self.value(waiting - 1, word, units)
             }
@@ -424,13 +443,13 @@ impl Job {
     fn taken(self) -> u32 {
         let verb = self.verb;
         match verb {
-            help::WRITE => 141,
-            help::READ => 131,
+            help::WRITE => 397,
+            help::READ => 259,
             help::EXPLAIN => 3,
-            help::UNPACK => 130,
-            help::PAGES => if self.gives(PAGE) { 245 } else { 253 },
+            help::UNPACK => 258,
+            help::PAGES => if self.gives(PAGE) { 501 } else { 509 },
             help::HELP => 0,
-            _ => 128,
+            _ => 256,
         }
     }
 
@@ -438,16 +457,16 @@ impl Job {
     fn misfit(self) -> usize {
         let verb = self.verb;
         let given = self.given;
-        let odd = given & (255 - self.taken() % 256);
+        let odd = given & (511 - self.taken() % 512);
         let counts = verb == help::READ || verb == help::EXPLAIN || verb == help::UNPACK;
         if 0 < self.waiting {
-            fault::VALUE * 16 + 1 + self.waiting % 8
+            fault::VALUE * 16 + 1 + self.waiting % 16
         } else if self.helps {
             0
         } else if self.words == 0 {
             fault::NO_VERB * 16
         } else if odd != 0 {
-            fault::STRANGE * 16 + 2 + (u32::trailing_zeros(odd) % 8) as usize
+            fault::STRANGE * 16 + 2 + (u32::trailing_zeros(odd) % 16) as usize
         } else if help::HEADER < verb {
             0
         } else if self.words < 2 {
@@ -517,6 +536,7 @@ fn begun(line: usize, layout: usize, long: bool) -> Job {
         layout: layout,
         coding: 0,
         numbers: [0, 0, 0, MOST, 0, 0, 0, 0],
+        letters: [0, 0],
         len: 0,
         units: 0,
     }

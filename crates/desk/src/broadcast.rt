@@ -11,7 +11,7 @@ use printed::put;
 // The pages of a text: all of them, or the one that is asked for.
 pub(crate) fn write(out: &mut [u8], at: usize, job: Job, units: &[u16]) -> usize {
     let read = wikuay::wikuay_read_coding(1, job.coding);
-    let reading = read.reading;
+    let reading = verbs::lettered(job, read.reading);
     if job.gives(asked::PAGE) {
         one(out, at, job, reading, units)
     } else {

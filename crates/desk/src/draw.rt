@@ -2,6 +2,7 @@
 use crate::asked;
 use crate::asked::Job;
 use crate::tell;
+use names::ReadingNumbers;
 use printed::put;
 
 const ESCAPE: u8 = 0x1b;
@@ -55,16 +56,22 @@ fn letter_of(unit: u16) -> usize {
     }
 }
 
+// How the septets in front of a text are told (`meaning`).
+const LETTER: usize = 6;
+
+const BEHIND: usize = 7;
+
 // What a septet means, and its unit, where it has one.
 fn meaning(out: &mut [u8], at: usize, how: usize, unit: u16) -> usize {
-    let numbers = [how, if how < 3 { letter_of(unit) } else { 4 }];
+    let named = how < 3 || how == LETTER;
+    let numbers = [how, if named { letter_of(unit) } else { 4 }];
     let one = [unit];
     tell::tell(
         out,
         at,
         tell::PEOPLE,
         b": {|with the escape |not listed behind an escape, with it |escape|a second escape, with the first a space|
-escape with nothing behind it, a space}{LF|CR|space|~|}/",
+escape with nothing behind it, a space|language letter |CR behind the letters}{LF|CR|space|~|}/",
         &numbers,
         b"",
         &one,
@@ -98,11 +105,12 @@ fn how_of(septet: u8, waits: bool, last: bool, old: bool, unit: u16) -> usize {
     }
 }
 
-fn septets(out: &mut [u8], at: usize, list: &[u8], units: &[u16], old: bool) -> usize {
+// The septets from a place on.
+fn septets(out: &mut [u8], at: usize, list: &[u8], from: usize, units: &[u16], old: bool) -> usize {
     let mut end = at;
     let mut waits = false;
     let mut u: usize = 0;
-    for k in 0..list.len() {
+    for k in from..list.len() {
         let unit = if u < units.len() { units[u] } else { 0 };
         let how = how_of(list[k], waits, list.len() - k == 1, old, unit);
         end = septet(out, end, k, list[k]);
@@ -113,6 +121,25 @@ fn septets(out: &mut [u8], at: usize, list: &[u8], units: &[u16], old: bool) -> 
         }
     }
     end
+}
+
+// A septet in front of a text.
+fn before(out: &mut [u8], at: usize, k: usize, value: u8, how: usize) -> usize {
+    let end = septet(out, at, k, value);
+    meaning(out, end, how, value as u16)
+}
+
+// The letters in front of a page's text, if there are any, and behind them a CR, or under UCS2 spare bits.
+fn letters(out: &mut [u8], at: usize, reading: ReadingNumbers, ucs2: bool, octets: &[u8]) -> usize {
+    if reading.first == 0 {
+        return at;
+    }
+    let end = before(out, at, 0, reading.first, LETTER);
+    let end = before(out, end, 1, reading.second, LETTER);
+    if ucs2 {
+        return spare(out, end, octets, 2);
+    }
+    before(out, end, 2, 13, BEHIND)
 }
 
 // The septets from kept on, which are filling.
@@ -153,11 +180,14 @@ fn spare(out: &mut [u8], at: usize, octets: &[u8], n: usize) -> usize {
     tell::say(out, end, tell::PEOPLE, b" !/", &numbers)
 }
 
-fn units(out: &mut [u8], at: usize, list: &[u16], octets: usize) -> usize {
+// The units, where so many octets hold them; letters take the place of one more in front.
+fn units(out: &mut [u8], at: usize, list: &[u16], octets: usize, lettered: bool) -> usize {
+    let from = if lettered { 1 } else { 0 };
     let mut end = at;
     for i in 0..list.len() {
         let one = [list[i]];
-        let numbers = [i, i % 200 * 2, i % 200 * 2 + 1];
+        let j = i % 200 + from % 2;
+        let numbers = [i, j * 2, j * 2 + 1];
         end = tell::tell(
             out,
             end,
@@ -186,23 +216,37 @@ pub(crate) fn message(
     out: &mut [u8],
     at: usize,
     job: Job,
-    ucs2: bool,
+    reading: ReadingNumbers,
     list: &[u8],
     text: &[u16],
 ) -> usize {
+    let ucs2 = reading.alphabet == 2;
+    let lettered = reading.first != 0;
+    let numbers = [if ucs2 { 1 } else { 0 }];
+    let end = tell::say(out, at, tell::PEOPLE, b"alphabet {7-bit|UCS2}/", &numbers);
+    let end = octets(out, end, list);
+    let end = letters(out, end, reading, ucs2, list);
     if ucs2 {
-        let end = put(out, at, b"alphabet UCS2\n");
-        let end = octets(out, end, list);
-        return units(out, end, text, list.len());
+        let room = if lettered { 80 } else { list.len() };
+        return units(out, end, text, room, lettered);
     }
+    packed(out, end, job, lettered, list, text)
+}
+
+// The septets of a message, behind its letters. Where no text follows them, their CR is unpacked as filling.
+fn packed(out: &mut [u8], at: usize, job: Job, lettered: bool, list: &[u8], text: &[u16]) -> usize {
     let mut unpacked = [0u8; 182];
     let service = job.service;
     let count = job.numbers[asked::COUNT];
     let answer = wikuay::wikuay_unpack((service % 4) as u32, list, count, &mut unpacked);
-    let n = tell::within(answer.written, &unpacked);
-    let end = put(out, at, b"alphabet 7-bit\n");
-    let end = octets(out, end, list);
-    let end = septets(out, end, &unpacked[..n], text, service == asked::OLD);
+    let from = if lettered { 3 } else { 0 };
+    let kept = if answer.written < from {
+        from
+    } else {
+        answer.written
+    };
+    let n = tell::within(kept, &unpacked);
+    let end = septets(out, at, &unpacked[..n], from, text, service == asked::OLD);
     let total = if service == asked::SMS {
         n
     } else if service == asked::USSD {

@@ -45,8 +45,10 @@ pub(crate) const PAIR: usize = 21;
 
 pub(crate) const BLOCK: usize = 22;
 
+pub(crate) const LETTERS: usize = 23;
+
 // No fault of the request: the program cannot answer it.
-pub(crate) const UNREAD: usize = 23;
+pub(crate) const UNREAD: usize = 24;
 
 // Says what is wrong; shown with it is nothing (0), the units (1), or an option (2 and more).
 pub(crate) fn say(
@@ -85,8 +87,9 @@ the largest number is 4294967295|
 a short message is read with its length count; give --count|
 the command does not stand in a line|
 the largest sequence number or message identifier is 65535|
-a block is 88 octets, so 176 hexadecimal digits}
-{|: ~|: --coding|: --count|: --units|: --room|: --sequence|: --identifier|: --page|: --json}`/",
+a block is 88 octets, so 176 hexadecimal digits|
+the language letters are two plain ASCII characters, as in --letters en}
+{|: ~|: --coding|: --count|: --units|: --room|: --sequence|: --identifier|: --page|: --letters|: --json}`/",
         &numbers,
         b"",
         units,

@@ -31,25 +31,30 @@ pub(crate) fn help(out: &mut [u8], at: usize, verb: usize) -> usize {
         WRITE => put(
             out,
             at,
-            b"usage: wikuay write SERVICE TEXT [--coding OCTET] [--room N] [--json]
-       wikuay write SERVICE --units UNITS [--coding OCTET] [--room N] [--json]
+            b"usage: wikuay write SERVICE TEXT [--coding OCTET] [--letters LL] [--room N] [--json]
+       wikuay write SERVICE --units UNITS [--coding OCTET] [--letters LL] [--room N] [--json]
 Writes a text as a message: its octets, its length count and its data coding octet.
   TEXT             plain ASCII, typed as it is; - reads it from standard input, without its closing line end
   --units UNITS    the text as UCS2 units instead, four hexadecimal digits each
   --coding OCTET   write under what this coding octet says: UCS2, a class, a language, a waiting notice
+  --letters LL     the two letters of the language, a to z, which a broadcast page of coding 10 or 11 has in front of its text
   --room N         lend a buffer of N octets only
   --json           answer with one object of JSON
 wikuay write sms Hello
   octets C8329BFD06
   count 5
   coding 00
+wikuay write cbs --coding 10 --letters en Hello
+  octets 6577035966B3DF8D46A3D168341A8D46A3D168341A8D46A3D168341A8D46A3D168341A8D46A3D168341A8D46A3D168341A8D46A3D168341A8D46A3D168341A8D46A3D168341A8D46A3D168341A8D46A3D100
+  count 0
+  coding 10
 ",
         ),
         READ => put(
             out,
             at,
             b"usage: wikuay read SERVICE OCTETS [--coding OCTET] [--count N] [--json]
-Reads the octets of a message: the units of its text in hexadecimal, and the text.
+Reads the octets of a message: the units of its text in hexadecimal, the letters of the language where a page has them, and the text.
   OCTETS           two hexadecimal digits each; - reads them from standard input
   --coding OCTET   the data coding octet; if not given, 00 for sms and old, 0F for cbs and ussd
   --count N        the length count that travels with a short message: septets, or octets for UCS2
@@ -124,14 +129,15 @@ wikuay unpack sms --count 2 4121
         PAGES => put(
             out,
             at,
-            b"usage: wikuay pages TEXT [--sequence N] [--identifier N] [--coding OCTET] [--page K] [--room N] [--json]
-       wikuay pages --units UNITS [--sequence N] [--identifier N] [--coding OCTET] [--page K] [--room N] [--json]
+            b"usage: wikuay pages TEXT [--sequence N] [--identifier N] [--coding OCTET] [--letters LL] [--page K] [--room N] [--json]
+       wikuay pages --units UNITS [--sequence N] [--identifier N] [--coding OCTET] [--letters LL] [--page K] [--room N] [--json]
 Writes a text as a broadcast message of 1 to 15 pages: how many they are, and a block of 88 octets for each.
   TEXT             plain ASCII, typed as it is; - reads it from standard input, without its closing line end
   --units UNITS    the text as UCS2 units instead, four hexadecimal digits each
   --sequence N     the sequence number, 0 to 65535; if not given, 0
   --identifier N   the message identifier, 0 to 65535; if not given, 0
   --coding OCTET   write under what this coding octet says; if not given, 0F
+  --letters LL     the two letters of the language, with which several pages are refused
   --page K         this page alone, from 1
   --room N         lend a buffer of N octets only, for all pages
   --json           answer with one object of JSON

@@ -41,7 +41,8 @@ a unit is not in the alphabet|
 the buffer is too short|
 the reading cannot be written under this service|
 a septet is 128 or more|
-the pages or parts are not those of one message}`/",
+the pages or parts are not those of one message|
+the language letters are wrong}`/",
         &numbers,
     )
 }
@@ -51,13 +52,15 @@ const OF_CODING: usize = 0;
 
 pub(crate) const OF_OCTETS: usize = 1;
 
-const OF_SEPTETS: usize = 2;
+const OF_UNITS: usize = 2;
 
-const OF_UNITS: usize = 3;
+const OF_TEXT: usize = 3;
 
-const OF_TEXT: usize = 4;
+pub(crate) const OF_PAGE: usize = 4;
 
-pub(crate) const OF_PAGE: usize = 5;
+const OF_SEPTETS: usize = 5;
+
+const OF_LETTERS: usize = 6;
 
 fn shown(out: &mut [u8], at: usize, kind: usize, octets: &[u8], units: &[u16]) -> usize {
     let numbers = [kind];
@@ -65,7 +68,7 @@ fn shown(out: &mut [u8], at: usize, kind: usize, octets: &[u8], units: &[u16]) -
         out,
         at,
         tell::PEOPLE,
-        b"{coding @|octets @|septets @|units %|text ~|page ~}",
+        b"{coding @|octets @|units %|text ~|page ~|septets @|letters ~}",
         &numbers,
         octets,
         units,
@@ -105,14 +108,14 @@ pub(crate) fn refuse(
     let one = [job.coding];
     if job.layout != tell::PEOPLE {
         end
-    } else if kind != OF_SEPTETS && (refusal < 4 || refusal == 8) {
+    } else if kind < OF_SEPTETS && (refusal < 4 || refusal == 8) {
         pointed(out, end, OF_CODING, 0, &one, units)
     } else {
         pointed(out, end, kind, position, octets, units)
     }
 }
 
-// A refusal of a text, which is shown as it was typed.
+// A refusal of a text, which is shown as it was typed. 11 is of its letters, and so is 8 where letters are given.
 pub(crate) fn refuse_text(
     out: &mut [u8],
     at: usize,
@@ -121,12 +124,35 @@ pub(crate) fn refuse_text(
     position: usize,
     units: &[u16],
 ) -> usize {
+    let letters = job.letters;
+    let given = job.gives(asked::LETTERS);
+    let n = tell::within_units(if given { 2 } else { 0 }, &letters);
+    if refusal == 11 || (given && refusal == 8) {
+        return refuse(
+            out,
+            at,
+            job,
+            OF_LETTERS,
+            refusal,
+            position,
+            b"",
+            &letters[..n],
+        );
+    }
     let kind = if job.gives(asked::UNITS) {
         OF_UNITS
     } else {
         OF_TEXT
     };
     refuse(out, at, job, kind, refusal, position, b"", units)
+}
+
+// The reading of a coding octet with the letters that are given.
+pub(crate) fn lettered(job: Job, reading: ReadingNumbers) -> ReadingNumbers {
+    let mut next = reading;
+    next.first = (job.letters[0] % 256) as u8;
+    next.second = (job.letters[1] % 256) as u8;
+    next
 }
 
 // The call is lent the front of the buffer, as long as the room asked for.
@@ -145,7 +171,7 @@ fn write(out: &mut [u8], at: usize, job: Job, units: &[u16]) -> usize {
     let mut octets = [0u8; 160];
     let service = (job.service % 4) as u32;
     let read = wikuay::wikuay_read_coding(service, job.coding);
-    let reading = read.reading;
+    let reading = lettered(job, read.reading);
     if read.refusal != 0 {
         return refuse_text(out, at, job, read.refusal, read.position, units);
     }
@@ -251,27 +277,51 @@ fn read(out: &mut [u8], at: usize, job: Job, octets: &[u8]) -> usize {
         );
     }
     let k = tell::within_units(answer.written, &units);
+    let end = body(out, at, job, reading, octets, &units[..k]);
+    let end = letters(out, end, job.layout, reading);
+    tell::tell(
+        out,
+        end,
+        job.layout,
+        b"`text`<`~`/",
+        &numbers,
+        octets,
+        &units[..k],
+    )
+}
+
+// What stands before the letters and the text: the units, or the message drawn.
+fn body(
+    out: &mut [u8],
+    at: usize,
+    job: Job,
+    reading: ReadingNumbers,
+    octets: &[u8],
+    units: &[u16],
+) -> usize {
+    let numbers = [0usize];
     if job.verb == help::READ {
         return tell::tell(
             out,
             at,
             job.layout,
-            b"`units`<`%`/`text`<`~`/",
+            b"`units`<`%`/",
             &numbers,
             octets,
-            &units[..k],
+            units,
         );
     }
-    let drawn = draw::message(out, at, job, reading.alphabet == 2, octets, &units[..k]);
-    tell::tell(
-        out,
-        drawn,
-        job.layout,
-        b"text ~/",
-        &numbers,
-        octets,
-        &units[..k],
-    )
+    draw::message(out, at, job, reading, octets, units)
+}
+
+// The letters of a reading, where it has any.
+fn letters(out: &mut [u8], at: usize, layout: usize, reading: ReadingNumbers) -> usize {
+    if reading.first == 0 {
+        return at;
+    }
+    let both = [reading.first as u16, reading.second as u16];
+    let numbers = [0usize];
+    tell::tell(out, at, layout, b"`letters`<`~`/", &numbers, b"", &both)
 }
 
 // What the numbers of a reading say, field by field.

@@ -1,5 +1,5 @@
--- The place is at most the length, and what is left of it falls. Assumes nothing.
-use Prim.Native.Nat.{_-_, _≤_}
+-- What is left behind the place falls. Assumes nothing.
+use Prim.Native.Nat.{_-_}
 use mathlib.Core.Path.{_≡_}
 use lib.ListN.{length}
 use borrow.Author.Needs.{needs}
@@ -7,10 +7,10 @@ use Rattle.desk.proofs.draw.septets.Statement.{statement}
 use Rattle.desk.proofs.draw.septets.Tie as tie
 
 abbrev Inv-loop : tie.InvT-loop
-Inv-loop out₀ at list units old end₀ waits₀ u₀ k₀ k-end out end waits u k = (length out ≡ length out₀) × (k ≤ k-end)
+Inv-loop out₀ at list from units old end₀ waits₀ u₀ k₀ k-end out end waits u k = length out ≡ length out₀
 
 abbrev μ-loop : tie.MeasureT-loop
-μ-loop out₀ at list units old end₀ waits₀ u₀ k₀ k-end out end waits u k = k-end - k
+μ-loop out₀ at list from units old end₀ waits₀ u₀ k₀ k-end out end waits u k = k-end - k
 
 loop-holds : tie.Need-loop-holds Inv-loop μ-loop
 loop-holds c = search needs

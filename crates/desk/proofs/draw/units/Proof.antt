@@ -7,10 +7,10 @@ use Rattle.desk.proofs.draw.units.Statement.{statement}
 use Rattle.desk.proofs.draw.units.Tie as tie
 
 abbrev Inv-loop : tie.InvT-loop
-Inv-loop out₀ at list octets end₀ i₀ t10 t11 t12 i-end out end i = (length out ≡ length out₀) × (i ≤ i-end)
+Inv-loop out₀ at list octets lettered from end₀ i₀ t13 t14 t15 i-end out end i = (length out ≡ length out₀) × (i ≤ i-end)
 
 abbrev μ-loop : tie.MeasureT-loop
-μ-loop out₀ at list octets end₀ i₀ t10 t11 t12 i-end out end i = i-end - i
+μ-loop out₀ at list octets lettered from end₀ i₀ t13 t14 t15 i-end out end i = i-end - i
 
 loop-holds : tie.Need-loop-holds Inv-loop μ-loop
 loop-holds c = search needs
@@ -21,14 +21,17 @@ mul-meaning c = search needs
 shared-slice-read-meaning : tie.Need-shared-slice-read-meaning Inv-loop μ-loop
 shared-slice-read-meaning c = search needs
 
-mul-t18 : tie.Need-mul-t18 Inv-loop μ-loop
-mul-t18 c = search needs
+add-j : tie.Need-add-j Inv-loop μ-loop
+add-j c = search needs
 
-mul-t20 : tie.Need-mul-t20 Inv-loop μ-loop
-mul-t20 c = search needs
+mul-meaning-2 : tie.Need-mul-meaning-2 Inv-loop μ-loop
+mul-meaning-2 c = search needs
 
-add-t21 : tie.Need-add-t21 Inv-loop μ-loop
-add-t21 c = search needs
+mul-t23 : tie.Need-mul-t23 Inv-loop μ-loop
+mul-t23 c = search needs
+
+add-t24 : tie.Need-add-t24 Inv-loop μ-loop
+add-t24 c = search needs
 
 slice-aggregate-tell : tie.Need-slice-aggregate-tell Inv-loop μ-loop
 slice-aggregate-tell c = search needs
@@ -45,8 +48,8 @@ slice-aggregate-tell-4 c = search needs
 tell-requires : tie.Need-tell-requires Inv-loop μ-loop
 tell-requires c κs = search needs
 
-mul-meaning-2 : tie.Need-mul-meaning-2 Inv-loop μ-loop
-mul-meaning-2 c = search needs
+mul-meaning-3 : tie.Need-mul-meaning-3 Inv-loop μ-loop
+mul-meaning-3 c = search needs
 
 shared-slice-read-meaning-2 : tie.Need-shared-slice-read-meaning-2 Inv-loop μ-loop
 shared-slice-read-meaning-2 c = search needs
@@ -93,15 +96,16 @@ units-spec =
     loop-holds
     mul-meaning
     shared-slice-read-meaning
-    mul-t18
-    mul-t20
-    add-t21
+    add-j
+    mul-meaning-2
+    mul-t23
+    add-t24
     slice-aggregate-tell
     slice-aggregate-tell-2
     slice-aggregate-tell-3
     slice-aggregate-tell-4
     tell-requires
-    mul-meaning-2
+    mul-meaning-3
     shared-slice-read-meaning-2
     meaning-requires
     add-i
