@@ -39,8 +39,12 @@ static wikuay_pages_answer paged;
 static wikuay_page_answer built;
 static wikuay_join_answer joined;
 static size_t number; /* of the page that is built: the last one */
+static uint32_t service; /* of one message, as the calls name it */
 
 enum { SEQUENCE = 0x1234, IDENTIFIER = 50 };
+
+/* Whether the case is one of several pages. */
+static int is_paged(void) { return given.service == PAGES || given.service == BUILT; }
 
 /* How much of a text a page holds. */
 static size_t page_room(void) { return given.alphabet == 2 ? 41 : 93; }
@@ -48,6 +52,13 @@ static size_t page_room(void) { return given.alphabet == 2 ? 41 : 93; }
 static const char *ours_prepare(const one_case *c) {
   reading = wikuay_plain();
   reading.alphabet = c->alphabet;
+  service = c->service;
+  if (c->service == LETTERED) {
+    service = WIKUAY_BROADCAST;
+    reading.prefix = 1;
+    reading.first_letter = 'e';
+    reading.second_letter = 'n';
+  }
   number = c->length == 0 ? 1 : (c->length + page_room() - 1) / page_room();
   return NULL;
 }
@@ -59,8 +70,8 @@ static void ours_run_pages(void) {
 }
 
 static void ours_run(void) {
-  if (given.writing) wrote = wikuay_write_message(given.service, reading, given.text, given.units, octets, ROOM_OCTETS);
-  else read = wikuay_read_message(given.service, given.coding, given.count, given.octets, given.octets_len, units, ROOM_UNITS);
+  if (given.writing) wrote = wikuay_write_message(service, reading, given.text, given.units, octets, ROOM_OCTETS);
+  else read = wikuay_read_message(service, given.coding, given.count, given.octets, given.octets_len, units, ROOM_UNITS);
 }
 
 static call ours_entry(void) {
@@ -75,6 +86,7 @@ static void to_answer(one_answer *got, wikuay_answer wrote, wikuay_read_answer r
   got->written = given.writing ? wrote.written : read.written;
   got->count = given.writing ? wrote.count : 0;
   got->coding = given.writing ? wrote.coding : 0;
+  got->numbers = given.writing ? 0 : (uint32_t)read.reading.first_letter << 8 | read.reading.second_letter;
   out_to_answer(got);
 }
 
@@ -102,7 +114,7 @@ static void pages_to_answer(one_answer *got, wikuay_pages_answer paged, const wi
 }
 
 static void ours_answer(one_answer *got) {
-  if (given.service >= PAGES) pages_to_answer(got, paged, &built, joined);
+  if (is_paged()) pages_to_answer(got, paged, &built, joined);
   else to_answer(got, wrote, read);
 }
 
@@ -124,12 +136,12 @@ static void plain_run_pages(void) {
 }
 
 static void plain_run(void) {
-  if (given.writing) plain_wrote = plain_write(given.service, reading, given.text, given.units, octets, ROOM_OCTETS);
-  else plain_got = plain_read(given.service, given.coding, given.count, given.octets, given.octets_len, units, ROOM_UNITS);
+  if (given.writing) plain_wrote = plain_write(service, reading, given.text, given.units, octets, ROOM_OCTETS);
+  else plain_got = plain_read(service, given.coding, given.count, given.octets, given.octets_len, units, ROOM_UNITS);
 }
 
 static void plain_result(one_answer *got) {
-  if (given.service >= PAGES) pages_to_answer(got, plain_paged, &plain_built, plain_joined);
+  if (is_paged()) pages_to_answer(got, plain_paged, &plain_built, plain_joined);
   else to_answer(got, plain_wrote, plain_got);
 }
 
@@ -186,11 +198,12 @@ static int counts_len = COUNTS;
 static const char *service_name(void) {
   static const char *const names[][2] = {
     { "sms", "sms-ucs2" }, { "page", "" }, { "ussd", "" }, { "pages", "pages-ucs2" }, { "built", "built-ucs2" },
+    { "lettered", "lettered-ucs2" },
   };
   return names[given.service][given.alphabet == 2];
 }
 
-static call call_of(const side *s) { return given.service >= PAGES ? s->run_pages : s->run; }
+static call call_of(const side *s) { return is_paged() ? s->run_pages : s->run; }
 
 static void run_side(const side *s, one_answer *got) {
   memset(octets, 0xA5, sizeof octets);
@@ -341,9 +354,11 @@ static void write_octets(void) {
 
 static void do_text(const char *kind, size_t most, int all) {
   static const size_t listed[] = { 0, 1, 7, 8, 93, 160, 182 }, listed_two[] = { 2, 8, 92, 160, 182 }, listed_ucs2[] = { 0, 1, 7, 8, 41, 70 };
+  static const size_t lettered[] = { 0, 1, 7, 8, 40, 89, 90 }, lettered_two[] = { 2, 8, 40, 88, 90 }, lettered_ucs2[] = { 0, 1, 7, 8, 39, 40 };
   int two = strcmp(kind, "extension") == 0 || strcmp(kind, "euro") == 0;
   const size_t *lengths = given.alphabet == 2 ? listed_ucs2 : two ? listed_two : listed;
   size_t lengths_len = given.alphabet == 2 ? 6 : two ? 5 : 7;
+  if (given.service == LETTERED) lengths = given.alphabet == 2 ? lettered_ucs2 : two ? lettered_two : lettered;
   given.kind = kind;
   fprintf(stderr, "bench: %s %s %s\n", given.writing ? "write" : "read", service_name(), kind);
   for (size_t i = 0; all ? i <= most : i < lengths_len; i++) {
@@ -354,6 +369,20 @@ static void do_text(const char *kind, size_t most, int all) {
     write_octets();
     do_case();
   }
+}
+
+/* One page behind language letters. */
+static void do_lettered(int all) {
+  given.service = LETTERED;
+  given.alphabet = 0;
+  do_text("letters", 90, all);
+  do_text("accent", 90, all);
+  do_text("extension", 90, all);
+  do_text("euro", 90, all);
+  if (given.writing) do_text("refused", 90, all);
+  if (given.writing) do_text("circumflex", 90, all);
+  given.alphabet = 2;
+  do_text("han", 40, all);
 }
 
 /* Several pages: each filled to its end, with `all` every number of them, and a text that is one over the end of the first and of the last. */
@@ -470,7 +499,8 @@ static int repeat(unsigned long times) {
 
 static int same_reading(wikuay_reading a, wikuay_reading b) {
   return a.alphabet == b.alphabet && a.compressed == b.compressed && a.message_class == b.message_class && a.language == b.language &&
-         a.deletion == b.deletion && a.prefix == b.prefix && a.reserved == b.reserved && a.notice == b.notice;
+         a.deletion == b.deletion && a.prefix == b.prefix && a.reserved == b.reserved && a.notice == b.notice &&
+         a.first_letter == b.first_letter && a.second_letter == b.second_letter;
 }
 
 static int codings(void) {
@@ -531,6 +561,7 @@ int main(int words_len, char **words) {
     given.alphabet = 2;
     given.service = SMS;
     do_text("han", 70, all);
+    do_lettered(all);
     do_all_pages(all);
   }
   if (!timing) do_other_calls();

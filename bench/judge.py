@@ -13,8 +13,10 @@ Row = collections.namedtuple("Row", "direction service text length side answer c
 
 # Instructions to write and to read 160 letters as a 7-bit short message. The other services cost the same a septet.
 MOST = {"write": 2000, "read": 1600}
-FULL = {"sms": 160, "page": 93, "ussd": 182, "pages": 1395}
+FULL = {"sms": 160, "page": 93, "ussd": 182, "pages": 1395, "lettered": 90}
 FULL_UCS2 = 70
+# A page of UCS2 behind language letters is held to the plain loop, and not to the loop that swaps, which has no letters.
+LETTERED_UCS2 = {"lettered-ucs2": 40}
 # Messages of several pages, all of them and the last one alone: what a page of each holds, septets or units.
 PAGED = {"pages": 93, "pages-ucs2": 41, "built": 93, "built-ucs2": 41}
 MOST_PAGES = 15
@@ -22,7 +24,8 @@ MOST_PAGES = 15
 LINEAR = ("letters", "han")
 # How often the plain loop's cost is allowed, where once is not kept: of UCS2 the plain loop is vector code from end to end, and a page built
 # of extension letters pays for the septets of all pages.
-TIMES = {("write", "pages-ucs2"): 1.05, ("write", "built-ucs2"): 1.45, ("read", "pages-ucs2"): 3, ("write", "built"): 1.2}
+TIMES = {("write", "pages-ucs2"): 1.05, ("write", "built-ucs2"): 1.45, ("read", "pages-ucs2"): 3, ("write", "built"): 1.2,
+         ("write", "lettered-ucs2"): 2, ("read", "lettered-ucs2"): 2}
 # Texts that are refused for their last unit, and the accepted text that the same pass judges: its last unit is listed, and is not its own code.
 REFUSED = ("refused", "circumflex")
 ACCEPTED = "accent"
@@ -33,7 +36,7 @@ PAGED_STACK_OCTETS = 2304
 # From this length on the library is at least as fast as the plain loop. Eight units with an accented one are tested in vain, and lose a tenth.
 FROM = 8
 FROM_ACCEPTED = 9
-MOST_LINES = 250
+MOST_LINES = 600
 # What the archive may ask of its caller's C library: plain memory, and no storage.
 MAY_ASK = {"memcpy", "memmove", "memset", "memcmp", "bcmp"}
 
@@ -77,9 +80,9 @@ def broken_by_figures(rows, timed):
             if not timed:
                 accepted = cost.get((r.direction, r.service, ACCEPTED, r.length, "wikuay"))
                 hold(f"{name}: a refusal against the accepted text", r.cost, accepted)
-        elif r.service in PAGED and timed:
+        elif (r.service in PAGED or r.service in LETTERED_UCS2) and timed:
             continue
-        elif (r.service in FULL or r.service in PAGED) and r.length >= (FROM_ACCEPTED if r.text == ACCEPTED else FROM):
+        elif (r.service in FULL or r.service in PAGED or r.service in LETTERED_UCS2) and r.length >= (FROM_ACCEPTED if r.text == ACCEPTED else FROM):
             plain = cost.get(key + ("plain",))
             # The spread of a time is not a fault: a tenth is allowed there.
             times = TIMES.get((r.direction, r.service), 1) * (1.1 if timed else 1)
@@ -169,6 +172,10 @@ def self_test():
                     rows.append(Row(direction, service, text, length, "plain", "same", 9.0 * length, None))
         for side, each in (("wikuay", 8), ("plain", 6), ("swap", 4)):
             rows.append(Row(direction, "sms-ucs2", "han", FULL_UCS2, side, "same", each * FULL_UCS2, 400))
+        for service, full in LETTERED_UCS2.items():
+            for length in (FROM - 2, FROM, full):
+                rows.append(Row(direction, service, "han", length, "wikuay", "same", 9.0 * length, 400))
+                rows.append(Row(direction, service, "han", length, "plain", "same", 9.0 * length / TIMES.get((direction, service), 1), None))
         for service, room in PAGED.items():
             for pages in (1, 2, MOST_PAGES):
                 text = "han" if service.endswith("ucs2") else "letters"
@@ -197,6 +204,7 @@ def self_test():
             breaks("plain loop", whole, cost=9.0 * full + 1)
     breaks("plain loop", lambda r: is_ours(r) and r.service in FULL and r.text == "extension" and r.length >= FROM, cost=9.0 * 1395 + 1)
     breaks("a refusal", lambda r: is_ours(r) and r.text in REFUSED, cost=9.0 * 1395 + 1)
+    breaks("plain loop", lambda r: is_ours(r) and r.service in LETTERED_UCS2 and r.length >= FROM, cost=9.0 * 1395 + 1)
     breaks("loop that swaps", lambda r: is_ours(r) and r.service == "sms-ucs2", cost=8 * FULL_UCS2 + 1)
     for service, room in PAGED.items():
         for pages in (1, 2, MOST_PAGES):

@@ -4,7 +4,7 @@
 #include <string.h>
 
 enum { CR = 0x0D, ESCAPE = 0x1B };
-enum { BLOCK = 88, HEADER = 6, PAGE_SEPTETS = 93, PAGE_UNITS = 41, MOST_PAGES = 15 };
+enum { BLOCK = 88, HEADER = 6, PAGE_OCTETS = 82, PAGE_SEPTETS = 93, PAGE_UNITS = 41, MOST_PAGES = 15 };
 enum { LISTED = 0x100, EXTENSION = 0x200 };
 #define M(code) (LISTED | (code))
 #define E(code) (LISTED | EXTENSION | (code))
@@ -105,6 +105,12 @@ int plain_write_coding(uint32_t service, wikuay_reading r) {
   return service == 0 ? short_coding(r) : page_coding(r);
 }
 
+/* The same of a text, which has no letter without the prefix mark. */
+static int text_coding(uint32_t service, wikuay_reading r) {
+  if (!r.prefix && (r.first_letter != 0 || r.second_letter != 0)) return -1;
+  return plain_write_coding(service, r);
+}
+
 static wikuay_reading reserved_reading(void) {
   wikuay_reading r = WIKUAY_PLAIN;
   r.reserved = 1;
@@ -203,10 +209,61 @@ static wikuay_answer write_ucs2(uint32_t service, uint8_t coding, const uint16_t
   return a;
 }
 
+static int is_letter(uint8_t octet) { return 'a' <= octet && octet <= 'z'; }
+
+/* A broadcast page behind its language letters. In UCS2 they take the place of the first unit, else of three septets, a CR with them. */
+static wikuay_answer write_lettered(uint8_t coding, wikuay_reading reading, const uint16_t *text, size_t text_len, uint8_t *out,
+                                    size_t out_len) {
+  wikuay_answer a = { 0, 0, 0, PAGE_OCTETS, coding };
+  uint8_t first = reading.first_letter, second = reading.second_letter;
+  if (!is_letter(first) || !is_letter(second)) return refused(11, 0);
+  if (reading.alphabet == WIKUAY_UCS2) {
+    if (text_len > PAGE_UNITS - 1) return refused(5, 0);
+    if (out_len < PAGE_OCTETS) return refused(7, 0);
+    out[0] = (uint8_t)(first | second << 7);
+    out[1] = second >> 1;
+    plain_swap_out(text, text_len, out + 2);
+    for (size_t i = 2 + 2 * text_len; i < PAGE_OCTETS; i += 2) {
+      out[i] = 0;
+      out[i + 1] = CR;
+    }
+    return a;
+  }
+  /* A unit takes one septet or two, so a text of at most 90 units always has room here. */
+  uint8_t septets[2 * PAGE_SEPTETS] = { first, second, CR };
+  size_t limit = PAGE_SEPTETS - 3, used = 3;
+  for (size_t i = 0; i < text_len && text_len > limit; i++)
+    if (find(text[i]) == 0) return refused(6, i);
+  if (text_len > limit) return refused(5, 0);
+  for (size_t i = 0; i < text_len; i++) {
+    unsigned entry = find(text[i]);
+    if (entry == 0) return refused(6, i);
+    if (entry & EXTENSION) septets[used++] = ESCAPE;
+    septets[used++] = entry & 0x7F;
+  }
+  if (used > PAGE_SEPTETS) return refused(5, 0);
+  while (used < PAGE_SEPTETS) septets[used++] = CR;
+  if (out_len < PAGE_OCTETS) return refused(7, 0);
+  uint32_t bits = 0;
+  unsigned held = 0;
+  for (size_t i = 0; i < PAGE_SEPTETS; i++) {
+    bits |= (uint32_t)septets[i] << held;
+    held += 7;
+    if (held >= 8) {
+      *out++ = (uint8_t)bits;
+      bits >>= 8;
+      held -= 8;
+    }
+  }
+  *out = (uint8_t)bits;
+  return a;
+}
+
 wikuay_answer plain_write(uint32_t service, wikuay_reading reading, const uint16_t *text, size_t text_len, uint8_t *out,
                           size_t out_len) {
-  int coding = plain_write_coding(service, reading);
+  int coding = text_coding(service, reading);
   if (coding < 0) return refused(8, 0);
+  if (service == 1 && reading.prefix) return write_lettered((uint8_t)coding, reading, text, text_len, out, out_len);
   uint32_t refusal = no_text(reading);
   if (refusal != 0) return refused(refusal, 0);
   if (reading.alphabet == WIKUAY_UCS2) return write_ucs2(service, (uint8_t)coding, text, text_len, out, out_len);
@@ -264,10 +321,57 @@ static wikuay_read_answer read_ucs2(uint32_t service, wikuay_reading reading, si
   return a;
 }
 
+/* A broadcast page behind its language letters, of which CRs are dropped behind them alone. */
+static wikuay_read_answer read_lettered(wikuay_reading reading, size_t count, const uint8_t *octets, size_t octets_len, uint16_t *out,
+                                        size_t out_len) {
+  if (octets_len != PAGE_OCTETS || count != 0) return read_refused(4);
+  reading.first_letter = octets[0] & 0x7F;
+  reading.second_letter = (octets[1] << 1 | octets[0] >> 7) & 0x7F;
+  if (!is_letter(reading.first_letter) || !is_letter(reading.second_letter)) return read_refused(11);
+  if (reading.alphabet == WIKUAY_UCS2) {
+    size_t units = PAGE_UNITS - 1;
+    while (units > 0 && octets[2 * units] == 0 && octets[2 * units + 1] == CR) units--;
+    if (units > out_len) return read_refused(7);
+    plain_swap_in(octets + 2, units, out);
+    wikuay_read_answer a = { 0, 0, units, 0, reading };
+    return a;
+  }
+  uint8_t septets[PAGE_SEPTETS];
+  size_t septets_len = PAGE_SEPTETS, used = 0;
+  uint32_t bits = 0;
+  unsigned held = 0;
+  for (size_t i = 0; i < PAGE_SEPTETS; i++) {
+    if (held < 7) {
+      bits |= (uint32_t)*octets++ << held;
+      held += 8;
+    }
+    septets[i] = bits & 0x7F;
+    bits >>= 7;
+    held -= 7;
+  }
+  if (septets[2] != CR) return read_refused(11);
+  while (septets_len > 3 && septets[septets_len - 1] == CR) septets_len--;
+  uint16_t units[PAGE_SEPTETS];
+  for (size_t i = 3; i < septets_len; i++) {
+    uint16_t unit = main_unit[septets[i]];
+    if (septets[i] == ESCAPE && i + 1 < septets_len) {
+      i++;
+      unit = extension_unit[septets[i]];
+      if (unit == 0) unit = main_unit[septets[i]];
+    }
+    units[used++] = unit;
+  }
+  if (used > out_len) return read_refused(7);
+  memcpy(out, units, used * sizeof units[0]);
+  wikuay_read_answer a = { 0, 0, used, 0, reading };
+  return a;
+}
+
 wikuay_read_answer plain_read(uint32_t service, uint8_t coding, size_t count, const uint8_t *octets, size_t octets_len,
                               uint16_t *out, size_t out_len) {
   if (service > 2) return read_refused(8);
   wikuay_reading reading = plain_read_coding(service, coding);
+  if (service == 1 && reading.prefix) return read_lettered(reading, count, octets, octets_len, out, out_len);
   uint32_t refusal = no_text(reading);
   if (refusal != 0) return read_refused(refusal);
   if (reading.alphabet == WIKUAY_UCS2) return read_ucs2(service, reading, count, octets, octets_len, out, out_len);
@@ -331,7 +435,7 @@ typedef struct {
 } paged;
 
 static void page_text(paged *to, wikuay_reading reading, const uint16_t *text, size_t text_len) {
-  int coding = plain_write_coding(1, reading);
+  int coding = text_coding(1, reading);
   to->position = 0;
   to->refusal = coding < 0 ? 8 : no_text(reading);
   if (to->refusal != 0) return;

@@ -17,6 +17,8 @@ SERVICES = {
     "pages-ucs2": "all pages, UCS2",
     "built": "the last page",
     "built-ucs2": "the last page, UCS2",
+    "lettered": "page with letters",
+    "lettered-ucs2": "page with letters, UCS2",
 }
 BEGIN, END = "<!-- figures: written by bench/run -->", "<!-- end of figures -->"
 

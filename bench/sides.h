@@ -5,13 +5,13 @@
 #include <stddef.h>
 #include <stdint.h>
 
-/* PAGES are all pages of a broadcast message, and BUILT its last one alone. */
-enum { SMS = 0, PAGE = 1, USSD = 2, PAGES = 3, BUILT = 4 };
+/* PAGES are all pages of a broadcast message, and BUILT its last one alone. LETTERED is one page behind language letters. */
+enum { SMS = 0, PAGE = 1, USSD = 2, PAGES = 3, BUILT = 4, LETTERED = 5 };
 enum { ROOM_OCTETS = 160, ROOM_UNITS = 182, PAGES_OCTETS = 1320, PAGES_UNITS = 1395, BLOCK = 88 };
 
 typedef struct {
   int writing;                 /* 1 text into octets, 0 octets into text */
-  uint32_t service;            /* SMS .. BUILT */
+  uint32_t service;            /* SMS .. LETTERED */
   uint8_t alphabet;            /* 0 7-bit, 2 UCS2 */
   const char *kind;            /* letters, extension, euro, refused, circumflex, han */
   size_t length;               /* septets of the text, or its units in UCS2 */
@@ -28,7 +28,7 @@ typedef struct {
   size_t position;
   uint32_t count;              /* of several pages how many they are */
   uint8_t coding;
-  uint32_t numbers;            /* of pages that are joined the sequence number and the message identifier */
+  uint32_t numbers;            /* of pages that are joined the sequence number and the message identifier, of one message read its letters */
   size_t written;
   uint8_t octets[PAGES_OCTETS];
   uint16_t units[PAGES_UNITS];
