@@ -109,7 +109,7 @@ pub enum Refusal {
     NoSeptet { septet: usize },
     // 10: the pages or parts are not those of one message.
     WrongPages,
-    // 11: the language letters are not two letters and what follows them. Not given yet.
+    // 11: a language letter is absent or not a to z, or in 7-bit text no CR is behind them.
     WrongLetters,
     // 12: the user data header does not hold together. Not given yet.
     WrongHeader,

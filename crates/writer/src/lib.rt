@@ -131,14 +131,14 @@ fn write_page(coding: PageCoding, units: &[u16], out: &mut [u8]) -> MessageWritt
 }
 
 // The answer of writing such a page, with the coding octet. It has no count.
-fn paged(octet: u8, answer: Filled) -> MessageWritten
-    ensures { λ r. ⌜ r ≡ pageAs octet answer ⌝ }
+fn paged(code: u8, answer: Filled) -> MessageWritten
+    ensures { λ r. ⌜ r ≡ pageAs code answer ⌝ }
 {
     match answer {
-        Filled::Done(stored) => MessageWritten::Done {
-            octets: stored,
+        Filled::Done(laid) => MessageWritten::Done {
+            octets: laid,
             count: 0,
-            coding: octet,
+            coding: code,
         },
         Filled::Refused(refusal) => MessageWritten::Refused(refusal),
     }
