@@ -7,4 +7,5 @@ pub mod Smallest
 pub mod Theorems
 pub mod Refuses
 pub mod TextOctet
+pub mod Prefixed
 pub mod Outcomes

@@ -24,6 +24,8 @@ use Rattle.coding.proofs.Reading.is_ucs2.Kinds as is-ucs2-kinds
 use Rattle.coding.proofs.Reading.is_ucs2.Reads as is-ucs2-reads
 use Rattle.coding.proofs.Reading.lettered.Kinds as lettered-kinds
 use Rattle.coding.proofs.Reading.lettered.Reads as lettered-reads
+use Rattle.coding.proofs.lettered_octet.Kinds as lettered-octet-kinds
+use Rattle.coding.proofs.lettered_octet.Reads as lettered-octet-reads
 
 pub of-unique : OneAnswer of-kinds.ps of-kinds.r of-reads.Post
 of-unique κs a x y u v p q = p ∙ sym q
@@ -57,3 +59,6 @@ lettered-unique κs a x y u v p q = p ∙ sym q
 
 pub is-ucs2-unique : OneAnswer is-ucs2-kinds.ps is-ucs2-kinds.r is-ucs2-reads.Post
 is-ucs2-unique κs a x y u v p q = p ∙ sym q
+
+pub lettered-octet-unique : OneAnswer lettered-octet-kinds.ps lettered-octet-kinds.r lettered-octet-reads.Post
+lettered-octet-unique κs a x y u v p q = p ∙ sym q

@@ -1,11 +1,12 @@
 -- Document 02, W2: which texts begin with the letters of their language, and where letters refuse the coding octet: "both absent in every other
 -- coding (else 8); data coding alone reads them as absent and writes past them". "USSD and messages of several pages still give 3."
--- Own rule: none. Cited by Reading::lettered and Reading::text_octet. Assumes nothing.
+-- Own rule: none. Cited by Reading::lettered, Reading::text_octet and lettered_octet. Assumes nothing.
 --   isLettered s r   == under service s one message with the reading r begins with letters: a broadcast page with the prefix mark
+--   letteredIn ucs2  == the reading of the codings that such a page has: 0001 0000, or 0001 0001 where ucs2 is true
 --   strayLetters r   == r has a letter, and no prefix mark
 --   codingRules s r  == the refusals of a text's coding octet: those of data coding alone, then letters in another coding
 --   codingWrites s r == the coding octet of a text with the reading r under s, or the refusal
-use mathlib.Core.Bool.{Bool, false, not, _&&_}
+use mathlib.Core.Bool.{Bool, true, false, not, _&&_}
 use mathlib.Core.List.{List, [], _∷_, _++_}
 use Rattle.words.specs.Judging.{Rule, when, verdict, settle}
 use Rattle.words.specs.declared.Service.{Service}
@@ -15,6 +16,7 @@ use Rattle.fields.specs.Letters.{anyLetter}
 use Rattle.coding.specs.declared.Reading.{Reading}
 use Rattle.coding.specs.declared.OctetWritten.{OctetWritten}
 use Rattle.coding.specs.declared.OctetWritten.the-variants.{Done, Refused}
+use Rattle.coding.specs.Readings.{plainIn, withPrefix}
 use Rattle.coding.specs.OctetWritten.{smallest, writeRules}
 
 abbrev pub isLettered : Service → Reading → Bool
@@ -22,6 +24,9 @@ isLettered ShortMessage r = false
 isLettered Broadcast r = r .prefix
 isLettered Ussd r = false
 isLettered OldPage r = false
+
+abbrev pub letteredIn : Bool → Reading
+letteredIn ucs2 = withPrefix true (plainIn ucs2)
 
 abbrev pub strayLetters : Reading → Bool
 strayLetters r = not (r .prefix) && anyLetter (r .letters)

@@ -4,7 +4,7 @@ ghost use Prim.Native.Nat.{_<_};
 ghost use lib.ListN.{length};
 ghost use Rattle.coding.specs.Readings.{readingFrom, unmentioned, plainIn, withAlphabet, withLetters};
 ghost use Rattle.coding.specs.LanguageLetters.{isLettered, codingWrites};
-ghost use Rattle.coding.specs.OctetRead.{octetReads};
+ghost use Rattle.coding.specs.OctetRead.{readUnder, octetReads};
 ghost use Rattle.fields.specs.Numbers.{alphabets, classes, languages};
 ghost use Rattle.coding.specs.OctetWritten.{octetWrites};
 ghost use Rattle.coding.specs.declared.OctetWritten.the-variants.{Done};
@@ -216,6 +216,19 @@ pub fn plain_octet(service: Service, ucs2: bool) -> OctetWritten
         Service::Broadcast => plain_done(ucs2, 0x0f, 0x48),
         Service::Ussd => plain_done(ucs2, 0x0f, 0x48),
         Service::OldPage => OctetWritten::Refused(Refusal::Unwritable),
+    }
+}
+
+// Whether one message with this coding octet begins with the letters of its language: a broadcast page, 0001 0000 or 0001 0001. It is what
+// Reading::lettered says of the octet's reading, which is not built for it.
+pub fn lettered_octet(service: Service, octet: u8) -> bool
+    ensures answer { λ r. ⌜ r ≡ isLettered service (readUnder service octet) ⌝ }
+{
+    match service {
+        Service::ShortMessage => false,
+        Service::Broadcast => octet / 2 == 8,
+        Service::Ussd => false,
+        Service::OldPage => false,
     }
 }
 

@@ -34,7 +34,8 @@ use Rattle.demands.specs.MessageRead.{heldText, textLengthRules, fitsRea
 use Rattle.demands.specs.MessageWritten.{textOctets, textSizeRules, notCodable, overSize, messageOctets, messageCount, sizeRules, markRules, writeRules, writeAnswers, writeLeaves}
 use Rattle.demands.specs.Demands.{HoldsText, Writable, Readable}
 use Rattle.demands.proofs.Unlettered.{unmarked, mark-rules, size-rules, octets-same, heard-rules, length-rules, text-same, reading-same}
-use Rattle.demands.proofs.Steps.{octet-verdict, coding-verdict, read-given}
+use Rattle.coding.proofs.Prefixed.{read-given}
+use Rattle.demands.proofs.Steps.{octet-verdict, coding-verdict}
 
 pub text-accepts : (s : Service) (r : Reading) → HoldsText r → verdict (textRules s r) ≡ accepted
 unfolding textRules verdict

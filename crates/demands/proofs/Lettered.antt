@@ -55,7 +55,8 @@ use Rattle.demands.specs.Reports.{writeNumber, writeWritten, writeCount,
 use Rattle.demands.specs.Demands.{LetteredWritable, LetteredReadable, Accepted, sent, sentCount, sentCoding, Comes}
 use Rattle.demands.proofs.Accepting.{write-verdict, read-verdict}
 use Rattle.demands.proofs.Demands.{take-laid}
-use Rattle.demands.proofs.LetteredSteps.{lettered-octets, lettered-reads, lettered-writes}
+use Rattle.coding.proofs.Prefixed.{lettered-octets}
+use Rattle.demands.proofs.LetteredSteps.{lettered-reads, lettered-writes}
 use Rattle.demands.proofs.Steps.{coding-verdict, write-refused}
 use Rattle.demands.proofs.Unlettered.{mark-rules, size-rules, heard-rules, length-rules}
 

@@ -1,36 +1,30 @@
 -- How the whole reader and the whole writer come to their verdict on a page with letters in front of its text: its coding octet is one of two, which
 -- say neither compressed text nor data. Assumes nothing.
---   lettered-octets    exactly 10 and 11 (hexadecimal) of a broadcast read so: one computed test
 --   lettered-clear     what reads so is neither compressed nor data
 --   lettered-reads     the reader of such a page is the reader of the page by itself
 --   lettered-writes    the writer of such a page is the writer of the page by itself
 --   page-count         and has no count
 use mathlib.Core.Path.{_≡_, refl, ap, ap₂, _∙_, sym, subst}
-use mathlib.Core.Bool.{Bool, true, false, cond, _||_, false≢true}
+use mathlib.Core.Bool.{Bool, true, false, cond, false≢true}
 use mathlib.Core.List.{List, _++_}
-use mathlib.Core.Logic.{_↔_, _⊎_, inl, inr, ⊎-elim}
+use mathlib.Core.Logic.{_⊎_, inl, inr}
 use Prim.Native.Nat.{ℕ, _<_}
-use native.Mathlib.Omega.{arith}
-use lib.Dec.{T, eqb, eqb→eq}
-use borrow.Author.Tests.{eqb-true}
 use lib.ListN.{length}
 use Rattle.lists.specs.Bits.{bitOf, gather, bitsOf}
-use Rattle.lists.proofs.Tests.{everyBelow, every-below}
 use Rattle.words.specs.declared.Service.{Service}
 use Rattle.words.specs.declared.Service.the-variants.{ShortMessage, Broadcast, Ussd, OldPage}
 use Rattle.words.specs.declared.Filled.the-variants as filled
 use Rattle.words.specs.Judging.{Rule, Verdict, refused, accepted, verdict, settle}
 use Rattle.words.proofs.Judging.{verdict-accepted-first}
 use Rattle.fields.specs.declared.Letters.{Letters}
-use Rattle.fields.specs.Numbers.{flagNo}
-use Rattle.fields.proofs.Numbered.{flag-injective}
 use Rattle.coding.specs.declared.Reading.{Reading}
 use Rattle.coding.specs.declared.OctetRead.the-variants as octet-read
 use Rattle.coding.specs.declared.OctetWritten.the-variants as octet-written
 use Rattle.coding.specs.Readings.{withLetters, withoutLetters}
-use Rattle.coding.specs.OctetRead.{classIn, generalReading, lastReading, readPage, readUnder, octetReads}
+use Rattle.coding.specs.OctetRead.{readPage, readUnder, octetReads}
 use Rattle.coding.specs.LanguageLetters.{isLettered, codingWrites}
 use Rattle.coding.specs.Holding.{isUcs2, isData, textRules}
+use Rattle.coding.proofs.Prefixed.{lettered-octets, read-given}
 use Rattle.coding.proofs.TextOctet.{coding-written}
 use Rattle.coding.proofs.Theorems.{settled, write-read}
 use Rattle.lettered.specs.declared.LetteredRead.the-variants as lettered
@@ -39,33 +33,9 @@ use Rattle.demands.specs.declared.MessageRead.the-variants as read
 use Rattle.demands.specs.declared.MessageWritten.the-variants as written
 use Rattle.demands.specs.MessageRead.{heldText, textLengthRules, letteredAs, pageReads, pageReadLeaves, clearRules, readAnswers, readLeaves}
 use Rattle.demands.specs.MessageWritten.{textOctets, textSizeRules, messageCount, letterRules, pageAs, pageWrites, pageWriteLeaves, writeAnswers, writeLeaves}
-use Rattle.demands.proofs.Steps.{read-given, read-held, write-held}
+use Rattle.demands.proofs.Steps.{read-held, write-held}
 
 -- ---- the two coding octets
-
-abbrev isPrefix : ℕ → Bool
-isPrefix o = eqb o 0x10 || eqb o 0x11
-
-abbrev prefixTest : ℕ → Bool
-prefixTest o = eqb (flagNo (readPage o .prefix)) (flagNo (isPrefix o))
-
-prefix-tests : T (everyBelow prefixTest 256)
-unfolding readPage bitsOf gather bitOf generalReading lastReading classIn
-prefix-tests = tt
-
-pub lettered-octets : (o : ℕ) → o < 256 → (isLettered Broadcast (readUnder Broadcast o) ≡ true) ↔ ((o ≡ 0x10) ⊎ (o ≡ 0x11))
-lettered-octets o h = (
-  λ e. which (eqb o 0x10) refl (eqb o 0x11) refl (sym same ∙ e),
-  λ x. same ∙ ⊎-elim (λ (e : o ≡ 0x10). simp e) (λ (e : o ≡ 0x11). simp e) x,
-)
-  where
-    same : readPage o .prefix ≡ isPrefix o
-    same = flag-injective _ _ (eqb→eq _ _ (every-below prefixTest 256 prefix-tests o h))
-
-    which : (a : Bool) → eqb o 0x10 ≡ a → (b : Bool) → eqb o 0x11 ≡ b → a || b ≡ true → (o ≡ 0x10) ⊎ (o ≡ 0x11)
-    which true p b q e = inl (eqb-true o 0x10 p)
-    which false p true q e = inr (eqb-true o 0x11 q)
-    which false p false q e = let z : _≡_ {A = ℕ} 0 1 = cc in absurd (omega arith)
 
 -- neither 1 nor 2 refuses what begins with letters
 pub record Clear (r : Reading) : Type 0 where

@@ -34,7 +34,7 @@ use Rattle.demands.specs.declared.MessageWritten.the-variants as written
 use Rattle.demands.specs.MessageRead.{textLengthRules, lengthRules, readRules, readAnswers}
 use Rattle.demands.specs.MessageWritten.{textSizeRules, sizeRules, writeRules, writeAnswers}
 use Rattle.demands.proofs.Accepting.{read-verdict, write-verdict}
-use Rattle.demands.proofs.Steps.{read-given}
+use Rattle.coding.proofs.Prefixed.{read-given}
 
 -- neither the mark nor WAP, whose number is 3
 abbrev shortTest : ℕ → Bool

@@ -26,8 +26,9 @@ use Rattle.demands.specs.declared.MessageRead.the-variants as read
 use Rattle.demands.specs.declared.MessageWritten.the-variants as written
 use Rattle.demands.specs.MessageRead.{lengthRules, readRules, readAnswers}
 use Rattle.demands.specs.MessageWritten.{markRules, sizeRules, writeRules, writeAnswers}
-use Rattle.demands.proofs.LetteredSteps.{Clear, lettered-octets, lettered-clear}
-use Rattle.demands.proofs.Steps.{coding-verdict, read-given}
+use Rattle.coding.proofs.Prefixed.{lettered-octets, read-given}
+use Rattle.demands.proofs.LetteredSteps.{Clear, lettered-clear}
+use Rattle.demands.proofs.Steps.{coding-verdict}
 
 -- a reading with the mark that is neither compressed nor data is refused 3
 marked : (s : Service) (r : Reading) → Clear r → r .prefix ≡ true → verdict (textRules s r) ≡ refused Prefixed

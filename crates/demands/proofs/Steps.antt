@@ -28,6 +28,7 @@ use Rattle.coding.specs.LanguageLetters.{isLettered, codingRules, codingWrites}
 use Rattle.coding.specs.Holding.{isUcs2, isData, textRules, holdsText}
 use Rattle.coding.proofs.Theorems.{settled}
 use Rattle.coding.proofs.TextOctet.{coding-written}
+use Rattle.coding.proofs.Prefixed.{read-given}
 use Rattle.stream.specs.SeptetCalls.{travels}
 use Rattle.stream.specs.UnitCalls.{ucs2OctetsOf, unitCountOf, toOctetsRules, toOctetsAnswers, toOctetsLeaves, toUnitsAnswers, toUnitsLeaves, toUnitsRules}
 use Rattle.demands.specs.declared.MessageRead.the-variants as read
@@ -68,12 +69,6 @@ held-verdict s r a e = settle-told heldTold held.Refused (cond (isUcs2 (r .alpha
     either : (b : Bool) → heldTold (cond b held.Units held.Septets) ≡ accepted
     either true = refl
     either false = refl
-
-pub read-given : (s : Service) (o : ℕ) (r : Reading) → octet-read.Done r ≡ octetReads s o → readUnder s o ≡ r
-unfolding octetReads
-read-given s o r e =
-    let d : octet-read.Done r ≡ octet-read.Done (readUnder s o) = e ∙ settle-given (verdict (octetRules s o)) octet-read.Refused (octet-read.Done (readUnder s o)) (octet-verdict s o (octet-read.Done r) e) in
-    sym (cc)
 
 pub written-given : (s : Service) (r : Reading) (o : ℕ) → octet-written.Done o ≡ codingWrites s r → smallest s r ≡ o
 unfolding codingWrites

@@ -33,7 +33,8 @@ use Rattle.coding.proofs.Theorems.{settled}
 use Rattle.letters.specs.Writing.{firstUnlisted}
 use Rattle.demands.specs.MessageWritten.{notCodable}
 use Rattle.demands.proofs.Accepting.{text-accepts, text-accepted}
-use Rattle.demands.proofs.Steps.{coding-verdict, read-given}
+use Rattle.coding.proofs.Prefixed.{read-given}
+use Rattle.demands.proofs.Steps.{coding-verdict}
 use Rattle.pages.specs.declared.Counted.{Counted}
 use Rattle.pages.specs.declared.Counted.the-variants as counted
 use Rattle.pages.specs.declared.PagesWritten.{PagesWritten}

@@ -36,7 +36,8 @@ use Rattle.coding.specs.declared.OctetRead.the-variants as octet-read
 use Rattle.coding.specs.declared.Held.the-variants as held
 use Rattle.coding.specs.OctetRead.{octetRules, readUnder, octetReads}
 use Rattle.coding.specs.Holding.{isUcs2, textRules as heldRules, holdsText}
-use Rattle.demands.proofs.Steps.{held-verdict, read-given, leaves-agree, heldAs, told-text, holds-text}
+use Rattle.coding.proofs.Prefixed.{read-given}
+use Rattle.demands.proofs.Steps.{held-verdict, leaves-agree, heldAs, told-text, holds-text}
 use Rattle.letters.specs.Reading.{textOf, textRules, textAnswers, textLeaves}
 use Rattle.pages.specs.declared.Header.{Header}
 use Rattle.pages.specs.declared.Order.{Order}
