@@ -18,8 +18,12 @@ use Rattle.answers.proofs.held.Kinds as held-kinds
 use Rattle.answers.proofs.held.Reads as held
 use Rattle.answers.proofs.shown.Kinds as shown-kinds
 use Rattle.answers.proofs.shown.Reads as shown
-use Rattle.answers.proofs.message_read.Kinds as message-read-kinds
-use Rattle.answers.proofs.message_read.Reads as message-read
+use Rattle.answers.proofs.lettered_shown.Kinds as lettered-shown-kinds
+use Rattle.answers.proofs.lettered_shown.Reads as lettered-shown
+use Rattle.answers.proofs.message_refused.Kinds as message-refused-kinds
+use Rattle.answers.proofs.message_refused.Reads as message-refused
+use Rattle.answers.proofs.message_told.Kinds as message-told-kinds
+use Rattle.answers.proofs.message_told.Reads as message-told
 
 pub done-unique : OneAnswer done-kinds.ps done-kinds.r done.Post
 done-unique κs a x y u v p q = p ∙ sym q
@@ -45,5 +49,11 @@ held-unique κs a x y u v p q = p ∙ sym q
 pub shown-unique : OneAnswer shown-kinds.ps shown-kinds.r shown.Post
 shown-unique κs a x y u v p q = p ∙ sym q
 
-pub message-read-unique : OneAnswer message-read-kinds.ps message-read-kinds.r message-read.Post
-message-read-unique κs a x y u v p q = p ∙ sym q
+pub lettered-shown-unique : OneAnswer lettered-shown-kinds.ps lettered-shown-kinds.r lettered-shown.Post
+lettered-shown-unique κs a x y u v p q = p ∙ sym q
+
+pub message-refused-unique : OneAnswer message-refused-kinds.ps message-refused-kinds.r message-refused.Post
+message-refused-unique κs a x y u v p q = p ∙ sym q
+
+pub message-told-unique : OneAnswer message-told-kinds.ps message-told-kinds.r message-told.Post
+message-told-unique κs a x y u v p q = p ∙ sym q

@@ -4,9 +4,12 @@
 -- Own rule: text held is 1 for 7-bit and 2 for UCS2. Cited by the definitions of the exported calls. Assumes nothing.
 --   filledAnswer, packedAnswer, octetWrittenAnswer, messageWrittenAnswer == what C gets of a call that writes or fills a buffer
 --   octetReadAnswer, heldAnswer, messageReadAnswer                       == what C gets of a call that reads a coding octet
---   shownAnswer x a                                                      == the same of reading a text, with the numbers x of its reading
+--   shownTold x a, letteredTold ucs2 a, refusedTold q                    == what is told on the way to the last of them: of a text by itself with its
+--                                                                           reading x, of a page behind letters, of a refusal
+--   toldAnswer a                                                         == what C gets of that
 --   refusedAnswer, readRefusedAnswer                                     == the same of a refusal by itself
 use Prim.Native.Nat.{ℕ}
+use mathlib.Core.Bool.{Bool}
 use Rattle.words.specs.declared.Refusal.{Refusal}
 use Rattle.words.specs.declared.Filled.{Filled}
 use Rattle.words.specs.declared.Filled.the-variants as filled
@@ -17,7 +20,10 @@ use Rattle.coding.specs.declared.OctetRead.{OctetRead}
 use Rattle.coding.specs.declared.OctetWritten.{OctetWritten}
 use Rattle.coding.specs.declared.Held.{Held}
 use Rattle.coding.specs.declared.Held.the-variants as held
-use Rattle.coding.specs.Readings.{unmentioned}
+use Rattle.coding.specs.Readings.{unmentioned, withLetters}
+use Rattle.coding.specs.LanguageLetters.{letteredIn}
+use Rattle.lettered.specs.declared.LetteredRead.{LetteredRead}
+use Rattle.lettered.specs.declared.LetteredRead.the-variants as page
 use Rattle.coding.specs.Answers.{writtenNumber, writtenPosition, writtenOctet, heldNumber, heldPosition, readNumber as octetReadNumber, readPosition as octetReadPosition, readReading as octetReadReading}
 use Rattle.stream.specs.declared.Packed.{Packed}
 use Rattle.stream.specs.Answers.{packedNumber, packedPosition, packedWritten, packedCount}
@@ -26,8 +32,10 @@ use Rattle.demands.specs.declared.MessageWritten.{MessageWritten}
 use Rattle.demands.specs.Reports.{readNumber, readPosition, readWritten, readReading, writeNumber, writePosition, writeWritten, writeCount, writeCoding}
 use Rattle.answers.specs.declared.Answer.{Answer}
 use Rattle.answers.specs.declared.ReadAnswer.{ReadAnswer}
-use Rattle.names.specs.declared.ReadingNumbers.{ReadingNumbers}
+use Rattle.answers.specs.declared.MessageTold.{MessageTold}
+use Rattle.names.specs.declared.JoinedNumbers.{JoinedNumbers}
 use Rattle.names.specs.Names.{numbersOf}
+use Rattle.names.specs.Joined.{joinedNumbers, partedNumbers}
 
 abbrev pub doneAnswer : ℕ → ℕ → ℕ → Answer
 doneAnswer count written coding = record { refusal = 0; count = count; position = 0; written = written; coding = coding }
@@ -68,7 +76,17 @@ heldAnswer a = record { refusal = heldNumber a; position = heldPosition a; writt
 abbrev pub messageReadAnswer : MessageRead → ReadAnswer
 messageReadAnswer a = record { refusal = readNumber a; position = readPosition a; written = readWritten a; holds = 0; reading = numbersOf (readReading a) }
 
--- the answer of reading a text, with the numbers of its reading
-abbrev pub shownAnswer : ReadingNumbers → Filled → ReadAnswer
-shownAnswer x (filled.Done units) = record { refusal = 0; position = 0; written = units; holds = 0; reading = x }
-shownAnswer x (filled.Refused q) = readRefusedAnswer q
+-- what reading a message tells before C's answer is made of it
+abbrev pub refusedTold : Refusal → MessageTold
+refusedTold q = record { refusal = numberOf q; position = positionOf q; written = 0; reading = joinedNumbers (numbersOf unmentioned) }
+
+abbrev pub shownTold : JoinedNumbers → Filled → MessageTold
+shownTold x (filled.Done units) = record { refusal = 0; position = 0; written = units; reading = x }
+shownTold x (filled.Refused q) = refusedTold q
+
+abbrev pub letteredTold : Bool → LetteredRead → MessageTold
+letteredTold ucs2 (page.Done units l) = record { refusal = 0; position = 0; written = units; reading = joinedNumbers (numbersOf (withLetters l (letteredIn ucs2))) }
+letteredTold ucs2 (page.Refused q) = refusedTold q
+
+abbrev pub toldAnswer : MessageTold → ReadAnswer
+toldAnswer a = record { refusal = a .refusal; position = a .position; written = a .written; holds = 0; reading = partedNumbers (a .reading) }

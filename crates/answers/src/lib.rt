@@ -1,11 +1,12 @@
 // The library's answers in numbers: what each reports, by the definitions of the crate that gives it.
 ghost use mathlib.Core.Path.{_≡_};
-ghost use Rattle.answers.specs.Answers.{doneAnswer, refusedAnswer, readAnswer, readRefusedAnswer, filledAnswer, octetWrittenAnswer, octetReadAnswer, heldAnswer, shownAnswer, messageReadAnswer};
+ghost use Rattle.answers.specs.Answers.{doneAnswer, refusedAnswer, readAnswer, readRefusedAnswer, filledAnswer, octetWrittenAnswer, octetReadAnswer, heldAnswer, shownTold, letteredTold, refusedTold, toldAnswer};
 use coding::Held;
 use coding::OctetRead;
 use coding::OctetWritten;
 use coding::Reading;
-use demands::MessageRead;
+use lettered::LetteredRead;
+use names::JoinedNumbers;
 use names::ReadingNumbers;
 use words::Filled;
 use words::Refusal;
@@ -128,28 +129,72 @@ pub fn held(answer: Held) -> ReadAnswer
     }
 }
 
-// Of reading a text, with the numbers of its reading.
-pub fn shown(reading: ReadingNumbers, answer: Filled) -> ReadAnswer
-    ensures answer { λ r. ⌜ r ≡ shownAnswer reading answer ⌝ }
+// What reading a message answers, its reading joined: C's own answer is made of it in one place, message_told.
+pub struct MessageTold {
+    pub refusal: u32,
+    pub position: usize,
+    pub written: usize,
+    pub reading: JoinedNumbers,
+}
+
+// Of reading a text by itself, with its reading.
+pub fn shown(reading: JoinedNumbers, answer: Filled) -> MessageTold
+    ensures answer { λ r. ⌜ r ≡ shownTold reading answer ⌝ }
 {
     match answer {
-        Filled::Done(units) => ReadAnswer {
+        Filled::Done(units) => MessageTold {
             refusal: 0,
             position: 0,
             written: units,
-            holds: 0,
             reading: reading,
         },
-        Filled::Refused(refusal) => read_refused(refusal),
+        Filled::Refused(refusal) => message_refused(refusal),
     }
 }
 
-// Of reading a message.
-pub fn message_read(answer: MessageRead) -> ReadAnswer
-    ensures answer { λ r. ⌜ r ≡ messageReadAnswer answer ⌝ }
+// Of reading a page behind the letters of its language.
+pub fn lettered_shown(ucs2: bool, answer: LetteredRead) -> MessageTold
+    ensures answer { λ r. ⌜ r ≡ letteredTold ucs2 answer ⌝ }
 {
     match answer {
-        MessageRead::Done { units, reading } => read(units, 0, reading),
-        MessageRead::Refused(refusal) => read_refused(refusal),
+        LetteredRead::Done { units, letters } => {
+            let reading = names::join(names::lettered_numbers(ucs2, letters));
+            MessageTold {
+                refusal: 0,
+                position: 0,
+                written: units,
+                reading: reading,
+            }
+        }
+        LetteredRead::Refused(refusal) => message_refused(refusal),
+    }
+}
+
+// A refusal of reading a message: its reading holds the unmentioned values.
+pub fn message_refused(refusal: Refusal) -> MessageTold
+    ensures answer { λ r. ⌜ r ≡ refusedTold refusal ⌝ }
+{
+    let plain = refused(refusal);
+    let reading = names::join(names::numbers(Reading::plain()));
+    MessageTold {
+        refusal: plain.refusal,
+        position: plain.position,
+        written: 0,
+        reading: reading,
+    }
+}
+
+// Of reading a message, as C takes it.
+pub fn message_told(answer: MessageTold) -> ReadAnswer
+    ensures answer { λ r. ⌜ r ≡ toldAnswer answer ⌝ }
+{
+    let joined = answer.reading;
+    let reading = names::part(joined);
+    ReadAnswer {
+        refusal: answer.refusal,
+        position: answer.position,
+        written: answer.written,
+        holds: 0,
+        reading: reading,
     }
 }

@@ -1,3 +1,4 @@
 pub mod Named
+pub mod Parting
 pub mod Settled
 pub mod Outcomes

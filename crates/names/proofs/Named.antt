@@ -20,7 +20,9 @@ use Rattle.fields.specs.declared.Kind.the-variants.{Voicemail, Fax, Mail, Other
 use Rattle.fields.specs.declared.Notice.{Notice}
 use Rattle.fields.specs.declared.Notice.the-variants.{Nothing, Discard, Store}
 use Rattle.coding.specs.declared.Reading.{Reading}
-use Rattle.coding.specs.Readings.{plainIn}
+use Rattle.coding.specs.Readings.{plainIn, withLetters}
+use Rattle.coding.specs.LanguageLetters.{letteredIn}
+use Rattle.fields.specs.declared.Letters.{Letters}
 use Rattle.fields.specs.Numbers.{alphabetNo, classNo, languageNo, kindNo, noticeNo, flagNo, alphabets, classes, languages, kinds}
 use Rattle.fields.proofs.Numbered.{alphabet-named, class-named, language-named, flag-named}
 use Rattle.names.specs.declared.ReadingNumbers.{ReadingNumbers}
@@ -30,7 +32,8 @@ use Rattle.names.specs.declared.NamedNotice.{NamedNotice}
 use Rattle.names.specs.declared.NamedNotice.the-variants as notice
 use Rattle.names.specs.declared.NamedReading.{NamedReading}
 use Rattle.names.specs.declared.NamedReading.the-variants as reading
-use Rattle.names.specs.Inner.{joinedFields, joinedRest, InOctets}
+use Rattle.names.specs.Joined.{joinedFields, joinedRest}
+use Rattle.names.specs.Inner.{InOctets}
 use Rattle.words.specs.Services.{serviceNo, namedService}
 use Rattle.names.specs.Names.{namedNotice, numbersOf, namesFlags, namesFields, readingWith, withNamed, namedReading}
 
@@ -266,9 +269,14 @@ plain-named x ucs2 w z e = by-fields ucs2 (plain-fields x (cond ucs2 2 0) w (alp
     by-fields true b = simp (b .0, b .1, b .2, b .3, b .4, b .5, b .6, n, p, q)
     by-fields false b = simp (b .0, b .1, b .2, b .3, b .4, b .5, b .6, n, p, q)
 
-abbrev pub plainRow : ℕ → ReadingNumbers
-plainRow alphabet = record { alphabet = alphabet; compressed = 0; class = 0; language = 15; deletion = 0; prefix = 0; reserved = 0; notice = 0; first = 0; second = 0 }
+-- the numbers of a reading that is plain but for its alphabet, its prefix mark and its letters
+abbrev pub row : ℕ → ℕ → ℕ → ℕ → ReadingNumbers
+row alphabet prefix first second = record { alphabet = alphabet; compressed = 0; class = 0; language = 15; deletion = 0; prefix = prefix; reserved = 0; notice = 0; first = first; second = second }
 
-pub plain-own : (ucs2 : Bool) → plainRow (cond ucs2 2 0) ≡ numbersOf (plainIn ucs2)
+pub plain-own : (ucs2 : Bool) → row (cond ucs2 2 0) 0 0 0 ≡ numbersOf (plainIn ucs2)
 plain-own true = refl
 plain-own false = refl
+
+pub lettered-own : (ucs2 : Bool) (l : Letters) → row (cond ucs2 2 0) 1 (l .first) (l .second) ≡ numbersOf (withLetters l (letteredIn ucs2))
+lettered-own true l = refl
+lettered-own false l = refl

@@ -1,3 +1,4 @@
 pub mod Names
+pub mod Joined
 pub mod Said
 pub mod Inner

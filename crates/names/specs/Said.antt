@@ -13,7 +13,7 @@ use Rattle.coding.specs.declared.Held.the-variants as held
 use Rattle.coding.specs.declared.OctetRead.{OctetRead}
 use Rattle.coding.specs.declared.OctetRead.the-variants as octet-read
 use Rattle.coding.specs.LanguageLetters.{isLettered}
-use Rattle.coding.specs.Holding.{holdsText}
+use Rattle.coding.specs.Holding.{isUcs2, holdsText}
 use Rattle.writer.specs.declared.MessageCoding.{MessageCoding}
 use Rattle.writer.specs.declared.MessageCoding.the-variants as coding
 use Rattle.writer.specs.declared.Settled.the-variants.{Refused}
@@ -22,17 +22,18 @@ use Rattle.names.specs.declared.ReadingNumbers.{ReadingNumbers}
 use Rattle.names.specs.declared.said.Heard.{Heard}
 use Rattle.names.specs.declared.said.Heard.the-variants as heard
 use Rattle.names.specs.Names.{numbersOf, namedReading, underReading}
+use Rattle.names.specs.Joined.{joinedNumbers}
 
 unfoldable pub codedIn : Service → ReadingNumbers → MessageCoding
 codedIn s x = underReading (namedReading x) (coding.Text (Refused Unwritable)) (λ r. codedAs s r)
 
 abbrev pub heldBy : Held → Reading → Heard
-heldBy held.Septets r = heard.Text false (numbersOf r)
-heldBy held.Units r = heard.Text true (numbersOf r)
+heldBy held.Septets r = heard.Text false (joinedNumbers (numbersOf r))
+heldBy held.Units r = heard.Text true (joinedNumbers (numbersOf r))
 heldBy (held.Refused q) r = heard.Refused q
 
 abbrev pub readingHeard : Service → Reading → Heard
-readingHeard s r = cond (isLettered s r) (heard.Lettered r) (heldBy (holdsText s r) r)
+readingHeard s r = cond (isLettered s r) (heard.Lettered (isUcs2 (r .alphabet))) (heldBy (holdsText s r) r)
 
 abbrev pub heardBy : Service → OctetRead → Heard
 heardBy s (octet-read.Done r) = readingHeard s r

@@ -3,8 +3,10 @@ ghost use mathlib.Core.Path.{_≡_};
 ghost use mathlib.Core.Bool.{true, cond};
 ghost use Prim.Native.Nat.{_<_};
 ghost use Rattle.names.specs.Names.{namedNotice, namesFlags, namesFields, readingWith, namedReading, numbersOf};
-ghost use Rattle.names.specs.Inner.{joinedFields, joinedRest, InOctets};
-ghost use Rattle.coding.specs.Readings.{plainIn};
+ghost use Rattle.names.specs.Joined.{joinedFields, joinedRest, joinedNumbers, partedNumbers};
+ghost use Rattle.names.specs.Inner.{InOctets};
+ghost use Rattle.coding.specs.Readings.{plainIn, withLetters};
+ghost use Rattle.coding.specs.LanguageLetters.{letteredIn};
 ghost use Rattle.names.specs.declared.NamedReading.the-variants.{Named};
 use coding::Reading;
 use fields::Alphabet;
@@ -27,6 +29,13 @@ pub struct ReadingNumbers {
     pub notice: u16,
     pub first: u8,
     pub second: u8,
+}
+
+// The numbers of a reading joined into two. What is known before a message is read goes past the reading of its text so: the compiler keeps two values
+// where ten would go through memory.
+pub struct JoinedNumbers {
+    pub front: u32,
+    pub back: u64,
 }
 
 // What a number says of a waiting notice.
@@ -178,6 +187,38 @@ fn rest(numbers: ReadingNumbers) -> u32
     (numbers.notice as u32) + 0x10000 * (numbers.first as u32) + 0x1000000 * (numbers.second as u32)
 }
 
+// The numbers joined.
+pub fn join(numbers: ReadingNumbers) -> JoinedNumbers
+    ensures answer { λ r. ⌜ r ≡ joinedNumbers numbers ⌝ }
+{
+    let fields = joined(numbers);
+    let others = rest(numbers) as u64;
+    JoinedNumbers {
+        front: (fields % 0x100000000) as u32,
+        back: fields / 0x100000000 + 0x100000000 * others,
+    }
+}
+
+// The numbers that were joined.
+pub fn part(joined: JoinedNumbers) -> ReadingNumbers
+    ensures answer { λ r. ⌜ r ≡ partedNumbers joined ⌝ }
+{
+    let front = joined.front;
+    let back = joined.back;
+    ReadingNumbers {
+        alphabet: (front % 256) as u8,
+        compressed: (front / 0x100 % 256) as u8,
+        class: (front / 0x10000 % 256) as u8,
+        language: (front / 0x1000000 % 256) as u8,
+        deletion: (back % 256) as u8,
+        prefix: (back / 0x100 % 256) as u8,
+        reserved: (back / 0x10000 % 256) as u8,
+        notice: (back / 0x100000000 % 0x10000) as u16,
+        first: (back / 0x1000000000000 % 256) as u8,
+        second: (back / 0x100000000000000 % 256) as u8,
+    }
+}
+
 // The number of plain text's alphabet.
 pub(crate) fn plain_alphabet(ucs2: bool) -> u8
     ensures { λ r. ⌜ r ≡ cond ucs2 2 0 ⌝ }
@@ -211,6 +252,25 @@ pub(crate) fn plain_numbers(ucs2: bool) -> ReadingNumbers
         notice: 0,
         first: 0,
         second: 0,
+    }
+}
+
+// The numbers of a broadcast page behind these letters.
+pub fn lettered_numbers(ucs2: bool, letters: Letters) -> ReadingNumbers
+    ensures answer { λ r. ⌜ r ≡ numbersOf (withLetters letters (letteredIn ucs2)) ⌝ }
+{
+    let alphabet = plain_alphabet(ucs2);
+    ReadingNumbers {
+        alphabet: alphabet,
+        compressed: 0,
+        class: 0,
+        language: 15,
+        deletion: 0,
+        prefix: 1,
+        reserved: 0,
+        notice: 0,
+        first: letters.first,
+        second: letters.second,
     }
 }
 

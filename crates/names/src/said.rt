@@ -6,7 +6,9 @@ ghost use Rattle.coding.specs.OctetRead.{octetReads};
 ghost use Rattle.coding.specs.Holding.{holdsText};
 ghost use Rattle.coding.specs.Readings.{plainIn};
 ghost use Rattle.coding.specs.declared.OctetRead.the-variants.{Done};
-ghost use Rattle.names.specs.Said.{codedIn, heldBy, readingHeard, heardBy};
+ghost use Rattle.words.specs.declared.Service.the-variants.{OldPage};
+ghost use Rattle.names.specs.Said.{codedIn, heldBy, heardBy};
+use crate::JoinedNumbers;
 use crate::NamedReading;
 use crate::ReadingNumbers;
 use coding::Held;
@@ -20,9 +22,9 @@ use writer::Settled;
 
 // What a text is read with.
 pub enum Heard {
-    Text { ucs2: bool, reading: ReadingNumbers },
+    Text { ucs2: bool, reading: JoinedNumbers },
     // A broadcast page behind the letters of its language.
-    Lettered(Reading),
+    Lettered { ucs2: bool },
     Refused(Refusal),
 }
 
@@ -42,7 +44,7 @@ pub fn coded(service: Service, numbers: ReadingNumbers) -> MessageCoding
     }
 }
 
-// What a text is read with under a coding octet.
+// What one message is read with under a coding octet.
 pub fn hears(service: Service, coding: u8) -> Heard
     ensures answer { λ r. ⌜ r ≡ heardBy service (octetReads service coding) ⌝ }
 {
@@ -52,19 +54,46 @@ pub fn hears(service: Service, coding: u8) -> Heard
     if is_plain(service, true, coding) {
         return plain_heard(service, true);
     }
+    if coding::lettered_octet(service, coding) {
+        return Heard::Lettered {
+            ucs2: coding == 0x11,
+        };
+    }
     match coding::read_octet(service, coding) {
-        OctetRead::Done(reading) => coded_heard(service, reading),
+        OctetRead::Done(reading) => reading_heard(service, reading),
         OctetRead::Refused(refusal) => Heard::Refused(refusal),
     }
 }
 
-// True only for the octet that plain text is written with.
+// True only for an octet of plain text: the one that it is written with, and all that an old page may have.
 fn is_plain(service: Service, ucs2: bool, coding: u8) -> bool
+    ensures { λ r. ⌜ (r ≡ true → octetReads service coding ≡ Done (plainIn ucs2)) ⌝ }
+{
+    match service {
+        Service::ShortMessage => is_written(service, ucs2, coding),
+        Service::Broadcast => is_written(service, ucs2, coding),
+        Service::Ussd => is_written(service, ucs2, coding),
+        Service::OldPage => is_old(ucs2, coding),
+    }
+}
+
+// True only for the octet that plain text is written with.
+fn is_written(service: Service, ucs2: bool, coding: u8) -> bool
     ensures { λ r. ⌜ (r ≡ true → octetReads service coding ≡ Done (plainIn ucs2)) ⌝ }
 {
     match coding::plain_octet(service, ucs2) {
         OctetWritten::Done(octet) => octet == coding,
         OctetWritten::Refused(_) => false,
+    }
+}
+
+// True only for an octet of an old page, which is 7-bit text.
+fn is_old(ucs2: bool, coding: u8) -> bool
+    ensures { λ r. ⌜ (r ≡ true → octetReads OldPage coding ≡ Done (plainIn ucs2)) ⌝ }
+{
+    match coding::read_octet(Service::OldPage, coding) {
+        OctetRead::Done(_) => !ucs2,
+        OctetRead::Refused(_) => false,
     }
 }
 
@@ -74,18 +103,8 @@ fn plain_heard(service: Service, ucs2: bool) -> Heard
 {
     Heard::Text {
         ucs2: ucs2,
-        reading: crate::plain_numbers(ucs2),
+        reading: crate::join(crate::plain_numbers(ucs2)),
     }
-}
-
-// What one message is read with under any reading.
-fn coded_heard(service: Service, reading: Reading) -> Heard
-    ensures { λ r. ⌜ r ≡ readingHeard service reading ⌝ }
-{
-    if reading.lettered(service) {
-        return Heard::Lettered(reading);
-    }
-    reading_heard(service, reading)
 }
 
 // What a text by itself is read with under any reading.
@@ -95,11 +114,11 @@ fn reading_heard(service: Service, reading: Reading) -> Heard
     match reading.holds(service) {
         Held::Septets => Heard::Text {
             ucs2: false,
-            reading: crate::numbers(reading),
+            reading: crate::join(crate::numbers(reading)),
         },
         Held::Units => Heard::Text {
             ucs2: true,
-            reading: crate::numbers(reading),
+            reading: crate::join(crate::numbers(reading)),
         },
         Held::Refused(refusal) => Heard::Refused(refusal),
     }

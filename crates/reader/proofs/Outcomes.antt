@@ -7,8 +7,6 @@ use Rattle.reader.proofs.read_message.Kinds as read-kinds
 use Rattle.reader.proofs.read_message.Reads as read
 use Rattle.reader.proofs.read_text.Kinds as read-text-kinds
 use Rattle.reader.proofs.read_text.Reads as read-text
-use Rattle.reader.proofs.read_page.Kinds as read-page-kinds
-use Rattle.reader.proofs.read_page.Reads as read-page
 
 pub read-message-unique : OneAnswer read-kinds.ps read-kinds.r read.Post
 read-message-unique κs a x y u v p q = p .0 ∙ sym (q .0)
@@ -21,9 +19,3 @@ read-text-unique κs a x y u v p q = p .0 ∙ sym (q .0)
 
 pub read-text-buffer-unique : OneBuffer read-text-kinds.ps read-text-kinds.r (λ κs u. now (u .1 .1 .1 .1 .0)) read-text.Post
 read-text-buffer-unique κs a x y u v p q = p .1 ∙ sym (q .1)
-
-pub read-page-unique : OneAnswer read-page-kinds.ps read-page-kinds.r read-page.Post
-read-page-unique κs a x y u v p q = p .0 ∙ sym (q .0)
-
-pub read-page-buffer-unique : OneBuffer read-page-kinds.ps read-page-kinds.r (λ κs u. now (u .1 .1 .1 .0)) read-page.Post
-read-page-buffer-unique κs a x y u v p q = p .1 ∙ sym (q .1)

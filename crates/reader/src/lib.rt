@@ -39,12 +39,10 @@ pub fn read_message(
     }
 }
 
-// Reads a broadcast page behind the letters of its language: the units of its text, and the reading with the letters.
-// Refuses octets that do not fit the page, or a count that is not 0 (4), letters of which one is not a to z, or no CR behind them in 7-bit text (11), a
-// short buffer (7). Stores the units at the front of out; a refusal stores nothing.
-pub fn read_page(reading: Reading, count: usize, octets: &[u8], out: &mut [u16]) -> MessageRead
-    ensures answer { λ r. ⌜ r ≡ pageReads reading count (now (octets .entry)) (length (now (out .entry))) ⌝ }
-    ensures buffer { λ r. ⌜ now (out .exit) ≡ pageReadLeaves reading count (now (octets .entry)) (now (out .entry)) ⌝ }
+// The reader of a broadcast page behind the letters of its language: 4, 11, 7.
+fn read_page(reading: Reading, count: usize, octets: &[u8], out: &mut [u16]) -> MessageRead
+    ensures { λ r. ⌜ r ≡ pageReads reading count (now (octets .entry)) (length (now (out .entry))) ⌝ }
+    ensures { λ r. ⌜ now (out .exit) ≡ pageReadLeaves reading count (now (octets .entry)) (now (out .entry)) ⌝ }
 {
     page_shown(
         reading,

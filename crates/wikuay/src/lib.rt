@@ -5,9 +5,10 @@ ghost use Prim.Native.Nat.{_≤_};
 ghost use lib.ListN.{length};
 ghost use Rattle.stream.specs.Answers.{packedCount};
 ghost use Rattle.demands.specs.Reports.{writeCount};
-ghost use Rattle.answers.specs.Answers.{packedAnswer, messageWrittenAnswer};
+ghost use Rattle.answers.specs.Answers.{packedAnswer, messageWrittenAnswer, toldAnswer};
 ghost use Rattle.wikuay.specs.Calls.{versionGives, readCodingGives, writeCodingGives, holdsTextGives, packGives, packKeeps, unpackGives, unpackKeeps, textToSeptetsGives, textToSeptetsKeeps, septetsToTextGives, septetsToTextKeeps, readMessageGives, readMessageKeeps, writeMessageGives, writeMessageKeeps};
 use answers::Answer;
+use answers::MessageTold;
 use answers::ReadAnswer;
 use demands::MessageWritten;
 use names::NamedReading;
@@ -121,19 +122,7 @@ pub extern "C" fn wikuay_read_message(
     ensures answer { λ r. ⌜ r ≡ readMessageGives service coding count (now (octets .entry)) (length (now (out .entry))) ⌝ }
     ensures buffer { λ r. ⌜ now (out .exit) ≡ readMessageKeeps service coding count (now (octets .entry)) (now (out .entry)) ⌝ }
 {
-    match words::named_service(service) {
-        NamedService::Named(service) => match said::hears(service, coding) {
-            Heard::Text { ucs2, reading } => answers::shown(
-                reading,
-                reader::read_text(service, ucs2, count, octets, out),
-            ),
-            Heard::Lettered(reading) => {
-                answers::message_read(reader::read_page(reading, count, octets, out))
-            }
-            Heard::Refused(refusal) => answers::read_refused(refusal),
-        },
-        NamedService::Unnamed => answers::read_refused(Refusal::Unwritable),
-    }
+    answers::message_told(read_told(service, coding, count, octets, out))
 }
 
 // Writes a message. Refuses 8, 1, 2, 3 or in its place 11, 6, 5, 7, and then leaves the buffer as it came; a success touches only the written front.
@@ -154,6 +143,27 @@ pub extern "C" fn wikuay_write_message(
             out,
         )),
         NamedService::Unnamed => answers::refused(Refusal::Unwritable),
+    }
+}
+
+// The reader: what its answer tells, from which C's is made in one place.
+fn read_told(service: u32, coding: u8, count: usize, octets: &[u8], out: &mut [u16]) -> MessageTold
+    ensures { λ r. ⌜ toldAnswer r ≡ readMessageGives service coding count (now (octets .entry)) (length (now (out .entry))) ⌝ }
+    ensures { λ r. ⌜ now (out .exit) ≡ readMessageKeeps service coding count (now (octets .entry)) (now (out .entry)) ⌝ }
+{
+    match words::named_service(service) {
+        NamedService::Named(service) => match said::hears(service, coding) {
+            Heard::Text { ucs2, reading } => answers::shown(
+                reading,
+                reader::read_text(service, ucs2, count, octets, out),
+            ),
+            Heard::Lettered { ucs2 } => answers::lettered_shown(
+                ucs2,
+                lettering::read_lettered(ucs2, count, octets, out),
+            ),
+            Heard::Refused(refusal) => answers::message_refused(refusal),
+        },
+        NamedService::Unnamed => answers::message_refused(Refusal::Unwritable),
     }
 }
 

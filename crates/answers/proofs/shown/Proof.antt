@@ -1,4 +1,4 @@
--- `shown` meets its contract: the answer is taken apart and made anew in numbers. Assumes nothing.
+-- `shown` meets its contract: the answer is taken apart and made anew, with the reading that is given. Assumes nothing.
 use borrow.Author.Needs.{needs}
 use Rattle.answers.proofs.shown.Statement.{statement}
 use Rattle.answers.proofs.shown.Tie as tie
@@ -9,16 +9,16 @@ enum-known-answer c = search needs
 enum-known-answer-2 : tie.Need-enum-known-answer-2
 enum-known-answer-2 c = search needs
 
-read-refused-requires : tie.Need-read-refused-requires
-read-refused-requires c κs = search needs
+message-refused-requires : tie.Need-message-refused-requires
+message-refused-requires c κs = search needs
 
 returns : tie.Need-returns
 returns c = simp (c .before .answer .given .1)
 
 returns-2 : tie.Need-returns-2
-returns-2 c = simp (c .read-refused .ensures, c .before .before .answer2 .given .1)
+returns-2 c = simp (c .message-refused .ensures, c .before .before .answer2 .given .1)
 
 pub shown-spec : {M : Type 1} → statement M
 shown-spec =
     tie.close
-    (tie.spec enum-known-answer enum-known-answer-2 read-refused-requires returns returns-2)
+    (tie.spec enum-known-answer enum-known-answer-2 message-refused-requires returns returns-2)

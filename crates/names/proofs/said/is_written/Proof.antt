@@ -1,4 +1,4 @@
--- `is_plain` meets its contract: an octet that a reading is written with reads as that. Assumes nothing.
+-- `is_written` meets its contract: an octet that a reading is written with reads as that. Assumes nothing.
 use Rattle.coding.proofs.Theorems.{write-read}
 use Rattle.coding.specs.OctetRead.{octetReads}
 use Rattle.coding.specs.Readings.{plainIn}
@@ -8,8 +8,8 @@ use Prim.Native.Nat.{ℕ}
 use lib.Dec.{T, eqb→eq}
 use mathlib.Core.Path.{_≡_, sym, subst, _∙_}
 use borrow.Author.Needs.{needs}
-use Rattle.names.proofs.said.is_plain.Statement.{statement}
-use Rattle.names.proofs.said.is_plain.Tie as tie
+use Rattle.names.proofs.said.is_written.Statement.{statement}
+use Rattle.names.proofs.said.is_written.Tie as tie
 
 plain-octet-requires : tie.Need-plain-octet-requires
 plain-octet-requires c κs = search needs
@@ -32,6 +32,6 @@ returns c =
 returns-2 : tie.Need-returns-2
 returns-2 c = never
 
-pub is-plain-spec : {M : Type 1} → statement M
-is-plain-spec =
+pub is-written-spec : {M : Type 1} → statement M
+is-written-spec =
     tie.close (tie.spec plain-octet-requires enum-known-octet enum-told returns returns-2)

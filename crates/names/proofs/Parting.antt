@@ -1,0 +1,82 @@
+-- The numbers of a reading that were joined are parted again: each stands in bits of its own.
+-- Assumes nothing.
+--   parted-joined   of numbers that fit their places
+--   parted-own      of the numbers of any reading whose letters are octets
+use mathlib.Core.Path.{_≡_, ap}
+use Prim.Native.Nat.{ℕ, _+_, _*_, _/_, _%_, _≤_, _<_}
+use native.Mathlib.Omega.{arith}
+use lib.Dec.{lit≤}
+use Rattle.fields.proofs.Numbered.{alphabet-named, class-named, language-named, flag-named, notice-below}
+use Rattle.coding.specs.declared.Reading.{Reading}
+use Rattle.names.specs.declared.ReadingNumbers.{ReadingNumbers}
+use Rattle.names.specs.Names.{numbersOf}
+use Rattle.names.specs.Joined.{joinedRest, joinedNumbers, partedNumbers}
+use Rattle.names.specs.Inner.{InOctets}
+
+-- four octets in one number
+record Four (k a b c d : ℕ) : Type 0 where
+  pub one : k % 256 ≡ a
+  pub two : k / 0x100 % 256 ≡ b
+  pub three : k / 0x10000 % 256 ≡ c
+  pub four : k / 0x1000000 % 256 ≡ d
+
+four-octets : (k a b c d : ℕ) → a < 256 → b < 256 → c < 256 → d < 256 → k ≡ a + 0x100 * b + 0x10000 * c + 0x1000000 * d → Four k a b c d
+four-octets k a b c d ha hb hc hd e = record { one = omega arith; two = omega arith; three = omega arith; four = omega arith }
+
+-- three octets, sixteen bits from the 32nd on, and two octets
+record Six (k a b c n f s : ℕ) : Type 0 where
+  pub one : k % 256 ≡ a
+  pub two : k / 0x100 % 256 ≡ b
+  pub three : k / 0x10000 % 256 ≡ c
+  pub four : k / 0x100000000 % 0x10000 ≡ n
+  pub five : k / 0x1000000000000 % 256 ≡ f
+  pub six : k / 0x100000000000000 % 256 ≡ s
+
+six-places : (k a b c n f s : ℕ) → a < 256 → b < 256 → c < 256 → n < 0x10000 → f < 256 → s < 256
+    → k ≡ a + 0x100 * b + 0x10000 * c + 0x100000000 * (n + 0x10000 * f + 0x1000000 * s) → Six k a b c n f s
+six-places k a b c n f s ha hb hc hn hf hs e =
+    record { one = omega arith; two = omega arith; three = omega arith; four = omega arith; five = omega arith; six = omega arith }
+
+-- seven octets as four and three
+split : (a b c d e f g : ℕ) → a < 256 → b < 256 → c < 256 → d < 256
+    → ((a + 0x100 * b + 0x10000 * c + 0x1000000 * d + 0x100000000 * e + 0x10000000000 * f + 0x1000000000000 * g) % 0x100000000 ≡ a + 0x100 * b + 0x10000 * c + 0x1000000 * d)
+    × ((a + 0x100 * b + 0x10000 * c + 0x1000000 * d + 0x100000000 * e + 0x10000000000 * f + 0x1000000000000 * g) / 0x100000000 ≡ e + 0x100 * f + 0x10000 * g)
+split a b c d e f g ha hb hc hd = (omega arith, omega arith)
+
+pub parted-joined : (x : ReadingNumbers) → InOctets x → x .notice < 0x10000 → x .first < 256 → x .second < 256 → partedNumbers (joinedNumbers x) ≡ x
+unfolding joinedNumbers partedNumbers
+parted-joined x w n p q =
+    let s = split (x .alphabet) (x .compressed) (x .class) (x .language) (x .deletion) (x .prefix) (x .reserved) (w .alphabet) (w .compressed) (w .class) (w .language) in
+    let f = four-octets _ (x .alphabet) (x .compressed) (x .class) (x .language) (w .alphabet) (w .compressed) (w .class) (w .language) (s .0) in
+    let b = six-places _ (x .deletion) (x .prefix) (x .reserved) (x .notice) (x .first) (x .second) (w .deletion) (w .prefix) (w .reserved) n p q (ap (λ (k : ℕ). k + 0x100000000 * joinedRest x) (s .1)) in
+    λ i.
+    record {
+      alphabet = f .one i;
+      compressed = f .two i;
+      class = f .three i;
+      language = f .four i;
+      deletion = b .one i;
+      prefix = b .two i;
+      reserved = b .three i;
+      notice = b .four i;
+      first = b .five i;
+      second = b .six i;
+    }
+
+-- a number below a small bound is an octet
+small : {i m n : ℕ} → i < m → m ≤ n → i < n
+small {i} {m} {n} h l = omega arith
+
+pub parted-own : (r : Reading) → r .letters .first < 256 → r .letters .second < 256 → partedNumbers (joinedNumbers (numbersOf r)) ≡ numbersOf r
+parted-own r p q =
+    parted-joined (numbersOf r)
+    (record {
+      alphabet = small (alphabet-named (r .alphabet) .below) (lit≤ tt);
+      compressed = small (flag-named (r .compressed) .below) (lit≤ tt);
+      class = small (class-named (r .class) .below) (lit≤ tt);
+      language = small (language-named (r .language) .below) (lit≤ tt);
+      deletion = small (flag-named (r .deletion) .below) (lit≤ tt);
+      prefix = small (flag-named (r .prefix) .below) (lit≤ tt);
+      reserved = small (flag-named (r .reserved) .below) (lit≤ tt);
+    })
+    (small (notice-below (r .notice)) (lit≤ tt)) p q
