@@ -219,8 +219,8 @@ pub fn plain_octet(service: Service, ucs2: bool) -> OctetWritten
     }
 }
 
-// Whether one message with this coding octet begins with the letters of its language: a broadcast page, 0001 0000 or 0001 0001. It is what
-// Reading::lettered says of the octet's reading, which is not built for it.
+// Whether one message with this coding octet begins with the letters of its language: a broadcast page, 0001 0000 or 0001 0001. It says what
+// Reading::lettered says of the octet's reading, and builds none.
 pub fn lettered_octet(service: Service, octet: u8) -> bool
     ensures answer { λ r. ⌜ r ≡ isLettered service (readUnder service octet) ⌝ }
 {

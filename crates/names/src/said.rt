@@ -1,5 +1,5 @@
 // What the numbers of a reading, or a coding octet, settle of a text before it is written or read. Plain text, 7-bit or UCS2, is by far the
-// most, and is known by its numbers or its octet: its reading is never built.
+// most, and is known by its numbers or its octet: its reading is never built. So is a page behind letters by its octet.
 ghost use mathlib.Core.Path.{_≡_};
 ghost use mathlib.Core.Bool.{true};
 ghost use Rattle.coding.specs.OctetRead.{octetReads};
@@ -20,7 +20,7 @@ use words::Service;
 use writer::MessageCoding;
 use writer::Settled;
 
-// What a text is read with.
+// What one message is read with.
 pub enum Heard {
     Text { ucs2: bool, reading: JoinedNumbers },
     // A broadcast page behind the letters of its language.
@@ -54,6 +54,7 @@ pub fn hears(service: Service, coding: u8) -> Heard
     if is_plain(service, true, coding) {
         return plain_heard(service, true);
     }
+    // Of the two octets 0001 0001 is UCS2.
     if coding::lettered_octet(service, coding) {
         return Heard::Lettered {
             ucs2: coding == 0x11,
