@@ -1,20 +1,21 @@
 -- The arrays that the code fills are the pages of the definitions: each is as long as what is laid over it and behind it. Assumes nothing.
 --   septets-laid  the letters, a CR and the text's septets over a page of CR
---   units-laid    the letters' unit and the text over a page of 000D, as octets
+--   units-laid    the letters' octets, and those of the text over a page of 000D; lay-behind: one more of them
 --   take-few      a front is no longer than it is asked to be
 --   kept-few, kept-text  how many septets are left without closing CRs, and which
 --   text-units    the units behind the letters
-use mathlib.Core.Path.{_≡_, ap, _∙_}
+use mathlib.Core.Path.{_≡_, refl, sym, ap, ap₂, _∙_}
 use mathlib.Core.Bool.{true}
-use mathlib.Core.List.{List, [], _∷_, _++_, append-nil}
-use Prim.Native.Nat.{ℕ, zero, suc, _+_, _-_, _≤_}
+use mathlib.Core.List.{List, [], _∷_, _++_, append-nil, append-assoc}
+use Prim.Native.Nat.{ℕ, zero, suc, _+_, _-_, _/_, _%_, _≤_, _<_}
 use native.Mathlib.Omega.{arith}
-use lib.ListN.{length, take, drop, replicate, length-drop}
-use lib.Seq.{take-all}
+use borrow.Author.Tests.{le-ltb}
+use lib.ListN.{length, getD, take, drop, set, replicate, length-append, length-drop}
+use lib.Seq.{take-all, take-at, length-take-le, getD-take, drop-append-le, drop-set-lt}
 use Rattle.words.specs.declared.Service.the-variants.{Broadcast}
 use Rattle.lists.specs.Lists.{laid}
 use Rattle.lists.specs.Closing.{withoutClosing}
-use Rattle.lists.proofs.Laid.{laid-length, laid-full}
+use Rattle.lists.proofs.Laid.{Laying, lay-one, lay-rest, lay-moved, laid-length, laid-full}
 use Rattle.lists.proofs.Closing.{closing-front, closing-length}
 use Rattle.fields.specs.declared.Letters.{Letters}
 use Rattle.letters.specs.Writing.{septetsOf, listedFront, encodedLeaves}
@@ -23,8 +24,9 @@ use Rattle.stream.specs.Pages.{page}
 use Rattle.stream.specs.ArrayCalls.{keptCount}
 use Rattle.stream.specs.Ucs2.{unitOctets, unitPage, octetUnits}
 use Rattle.stream.proofs.Stream.{unpacked-length}
-use Rattle.stream.proofs.UnitOctets.{octet-units-length}
+use Rattle.stream.proofs.UnitOctets.{unit-octets-length, octet-units-length}
 use Rattle.lettered.specs.LetteredPage.{letteredSeptets, letteredUnits, letteredOctets}
+use Rattle.lettered.proofs.Theorems.{lettered-length}
 
 pub septets-laid : (l : Letters) (t left : List ℕ) → listedFront t ≡ t → length (septetsOf t) ≤ 90 → left ≡ encodedLeaves t (replicate 90 13)
     → l .first ∷ l .second ∷ 13 ∷ left ++ [] ≡ page (letteredSeptets l (septetsOf t))
@@ -33,15 +35,53 @@ septets-laid l t left whole few e =
     ap (λ (s : List ℕ). l .first ∷ l .second ∷ 13 ∷ s)
     (append-nil left ∙ e ∙ ap (λ (s : List ℕ). laid s (replicate 90 13)) (take-all 90 (septetsOf (listedFront t)) (omega (arith, ap (λ (s : List ℕ). length (septetsOf s)) whole)) ∙ ap septetsOf whole))
 
-pub units-laid : (l : Letters) (u : ℕ) (t p : List ℕ) → length t ≤ 40 → unitOctets (u ∷ []) ≡ packed (l .first ∷ l .second ∷ []) → p ≡ laid (u ∷ t) (u ∷ replicate 40 13)
-    → unitOctets (unitPage (take 41 p)) ≡ letteredOctets true l t
-unfolding unitOctets unitPage letteredOctets letteredUnits laid
-units-laid l u t p few e q =
-    let size : length p ≡ 41 = ap length q ∙ laid-length (u ∷ t) (u ∷ replicate 40 13) (omega arith) in
-    ap (λ (s : List ℕ). unitOctets (unitPage s)) (take-all 41 p (omega arith))
-    ∙ ap unitOctets (laid-full p (replicate 41 13) (omega arith))
-    ∙ ap unitOctets q
-    ∙ ap (λ (s : List ℕ). s ++ unitOctets (letteredUnits t)) e
+-- the octets of two lists of units are those of both
+octets-joined : (us vs : List ℕ) → unitOctets (us ++ vs) ≡ unitOctets us ++ unitOctets vs
+unfolding unitOctets
+octets-joined [] vs = refl
+octets-joined (u ∷ us) vs = ap (λ (o : List ℕ). u / 256 ∷ u % 256 ∷ o) (octets-joined us vs)
+
+-- a page of 41 units is that of 40 and one more that fills it up
+page-over : (t : List ℕ) → length t ≤ 40 → unitPage t ≡ letteredUnits t ++ 13 ∷ []
+unfolding unitPage letteredUnits laid
+page-over t few = ap (λ (s : List ℕ). t ++ s) (drop-append-le (length t) (replicate 40 13) (13 ∷ []) few) ∙ sym (append-assoc t (drop (length t) (replicate 40 13)) (13 ∷ []))
+
+units-front : (t : List ℕ) → length t ≤ 40 → take 80 (unitOctets (unitPage (take 41 t))) ≡ unitOctets (letteredUnits t)
+unfolding letteredUnits
+units-front t few =
+    let size : length (letteredUnits t) ≡ 40 = laid-length t (replicate 40 13) few in
+    ap (λ (s : List ℕ). take 80 (unitOctets (unitPage s))) (take-all 41 t (omega arith))
+    ∙ ap (λ (s : List ℕ). take 80 (unitOctets s)) (page-over t few)
+    ∙ ap (take 80) (octets-joined (letteredUnits t) (13 ∷ []))
+    ∙ take-at (unitOctets (letteredUnits t)) (unitOctets (13 ∷ [])) 80 (omega (arith, unit-octets-length (letteredUnits t), size))
+
+-- the letters' octets are stored in front
+letters-stored : (start : List ℕ) (a b : ℕ) → 82 ≤ length start → take 2 (set (set start 0 a) 1 b) ≡ a ∷ b ∷ []
+letters-stored [] a b room = absurd (omega arith)
+letters-stored (x ∷ []) a b room = absurd (omega arith)
+letters-stored (x ∷ y ∷ start) a b room = refl
+
+pub units-laid : (l : Letters) (t start : List ℕ) (a b : ℕ) → length t ≤ 40 → 82 ≤ length start → a ∷ b ∷ [] ≡ packed (l .first ∷ l .second ∷ []) → (o : List ℕ) → o ≡ unitOctets (unitPage (take 41 t))
+    → laid (take 2 (set (set start 0 a) 1 b) ++ take 80 o) (set (set start 0 a) 1 b) ≡ laid (letteredOctets true l t) start
+unfolding letteredOctets laid
+units-laid l t start a b few room e o q =
+    let whole : take 2 (set (set start 0 a) 1 b) ++ take 80 o ≡ letteredOctets true l t =
+    ap₂ (λ (x y : List ℕ). x ++ y) (letters-stored start a b room ∙ e) (ap (take 80) q ∙ units-front t few) in
+    let size : length (letteredOctets true l t) ≡ 82 = lettered-length true l t (le-ltb 40 (length t) few) in
+    ap (λ (w : List ℕ). w ++ drop (length w) (set (set start 0 a) 1 b)) whole
+    ∙ ap (λ (s : List ℕ). letteredOctets true l t ++ s)
+    (drop-set-lt (length (letteredOctets true l t)) (set start 0 a) 1 b (omega arith) ∙ drop-set-lt (length (letteredOctets true l t)) start 0 a (omega arith))
+
+-- the next octet of the text is stored behind the letters'
+pub lay-behind : (start o out : List ℕ) (i : ℕ) → 82 ≤ length start → length o ≡ 82 → i < 80 → Laying start (take 2 start ++ take 80 o) (drop i (take 80 o)) (2 + i) out
+    → Laying start (take 2 start ++ take 80 o) (drop (i + 1) (take 80 o)) (2 + (i + 1)) (set out (2 + i) (getD o i 0))
+lay-behind start o out i room size h l =
+    let text : length (take 80 o) ≡ 80 = length-take-le 80 o (omega arith) in
+    let front : length (take 2 start) ≡ 2 = length-take-le 2 start (omega arith) in
+    let fits : length (take 2 start ++ take 80 o) ≤ length start = omega (arith, length-append (take 2 start) (take 80 o)) in
+    let next : 2 + (i + 1) ≡ 2 + i + 1 = omega arith in
+    let stored = lay-one (lay-rest (take 80 o) i l (omega arith)) fits in
+    lay-moved stored next (ap (set out (2 + i)) (sym (getD-take 80 o i 0 h)))
 
 pub take-few : (m : ℕ) (s : List ℕ) → length (take m s) ≤ m
 take-few zero s = omega arith

@@ -1,15 +1,12 @@
 // A broadcast page that begins with the letters of its language (document 02, W2): written and read.
 ghost use mathlib.Core.Path.{_≡_};
 ghost use mathlib.Core.Bool.{true, false};
-ghost use mathlib.Core.List.{[], _∷_};
 ghost use Prim.Native.Nat.{_≤_};
 ghost use lib.ListN.{length};
-ghost use Rattle.stream.specs.Stream.{packed};
-ghost use Rattle.stream.specs.Ucs2.{unitOctets};
 ghost use Rattle.stream.specs.SeptetCalls.{septetsFit};
 ghost use Rattle.words.specs.declared.Service.the-variants.{Broadcast};
 ghost use Rattle.fields.specs.Letters.{areLetters};
-ghost use Rattle.lettered.specs.LetteredPage.{letteredOctets, letteredWrites, letteredWriteLeaves, lettersIn, letteredReads, letteredReadLeaves};
+ghost use Rattle.lettered.specs.LetteredPage.{letteredWrites, letteredWriteLeaves, lettersIn, letteredReads, letteredReadLeaves};
 ghost use Rattle.lettering.specs.Inner.{behindLetters};
 use fields::Letters;
 use lettered::LetteredRead;
@@ -53,7 +50,7 @@ fn write_septets(letters: Letters, units: &[u16], out: &mut [u8]) -> Filled
     packing::pack_page(page, out)
 }
 
-// UCS2: 5, 7.
+// UCS2: the letters as two septets, and behind them the octets of a page of units but its last: 5, 7.
 fn write_units(letters: Letters, units: &[u16], out: &mut [u8]) -> Filled
     requires { ⌜ areLetters letters ≡ true ⌝ }
     ensures { λ r. ⌜ r ≡ letteredWrites true letters (now (units .entry)) (length (now (out .entry))) ⌝ }
@@ -65,38 +62,15 @@ fn write_units(letters: Letters, units: &[u16], out: &mut [u8]) -> Filled
     if out.len() < 82 {
         return Filled::Refused(Refusal::NoRoom);
     }
-    let octets = unit_page(letters, units);
+    let octets = from_units::page_octets(units);
+    out[0] = letters.first | ((letters.second & 1) << 7);
+    out[1] = letters.second >> 1;
     let mut i: usize = 0;
-    while i < 82 {
-        out[i] = octets[i];
+    while i < 80 {
+        out[2 + i] = octets[i];
         i += 1;
     }
     Filled::Done(82)
-}
-
-// The octets of a UCS2 page: 41 units 000D, of which the first becomes the letters and those behind it the text.
-fn unit_page(letters: Letters, units: &[u16]) -> [u8; 82]
-    requires { ⌜ (areLetters letters ≡ true) × (length (now units) ≤ 40) ⌝ }
-    ensures { λ r. ⌜ r ≡ letteredOctets true letters (now (units .entry)) ⌝ }
-{
-    let mut page = [13u16; 41];
-    page[0] = letter_unit(letters);
-    let mut i: usize = 0;
-    while i < units.len() {
-        page[1 + i] = units[i];
-        i += 1;
-    }
-    from_units::page_octets(&page)
-}
-
-// The unit whose two octets are those of the letters as two septets.
-fn letter_unit(letters: Letters) -> u16
-    requires { ⌜ areLetters letters ≡ true ⌝ }
-    ensures { λ r. ⌜ unitOctets (r ∷ []) ≡ packed (letters .first ∷ letters .second ∷ []) ⌝ }
-{
-    let high = letters.first | ((letters.second & 1) << 7);
-    let low = letters.second >> 1;
-    ((high as u16) << 8) | (low as u16)
 }
 
 // Reads a page: the units of its text, and the letters.
