@@ -25,7 +25,7 @@ LINEAR = ("letters", "han")
 # How often the plain loop's cost is allowed, where once is not kept: of UCS2 the plain loop is vector code from end to end, and a page built
 # of extension letters pays for the septets of all pages.
 TIMES = {("write", "pages-ucs2"): 1.05, ("write", "built-ucs2"): 1.45, ("read", "pages-ucs2"): 3, ("write", "built"): 1.2,
-         ("write", "lettered-ucs2"): 2, ("read", "lettered-ucs2"): 1.2}
+         ("write", "lettered-ucs2"): 1.8, ("read", "lettered-ucs2"): 1.2}
 # Texts that are refused for their last unit, and the accepted text that the same pass judges: its last unit is listed, and is not its own code.
 REFUSED = ("refused", "circumflex")
 ACCEPTED = "accent"
