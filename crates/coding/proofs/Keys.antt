@@ -6,7 +6,7 @@ use Prim.Native.Nat.{ℕ, _≤_, _<_}
 use native.Mathlib.Omega.{arith}
 use lib.Dec.{eqb, lit≤}
 use lib.ListN.{getD}
-use Rattle.keys.specs.Keys.{keyFrom, alphabetDigit, classDigit, languageDigit, noticeDigit, compressedDigit, deletionDigit, prefixDigit, reservedDigit}
+use Rattle.keys.specs.Keys.{keyFrom, alphabetDigit, classDigit, languageDigit, noticeDigit, compressedDigit, deletionDigit, prefixDigit, reservedDigit, headerDigit}
 use Rattle.fields.specs.declared.Alphabet.the-variants.{SevenBit}
 use Rattle.fields.specs.declared.Class.the-variants.{Unset}
 use Rattle.fields.specs.declared.Language.the-variants.{German}
@@ -18,11 +18,11 @@ use Rattle.coding.specs.Inner.{keyOf, readingOf}
 use Rattle.fields.proofs.Numbered.{alphabet-named, class-named, language-named, flag-named, notice-below, notice-back}
 
 -- readings that agree in every field but the letters are the same without them
-pub fields : (a b : Reading) → a .alphabet ≡ b .alphabet → a .compressed ≡ b .compressed → a .class ≡ b .class → a .language ≡ b .language → a .deletion ≡ b .deletion → a .notice ≡ b .notice → a .prefix ≡ b .prefix → a .reserved ≡ b .reserved → withoutLetters a ≡ withoutLetters b
-fields a b p₀ p₁ p₂ p₃ p₄ p₅ p₆ p₇ i = lettered noLetters (p₀ i) (p₁ i) (p₂ i) (p₃ i) (p₄ i) (p₅ i) (p₆ i) (p₇ i)
+pub fields : (a b : Reading) → a .alphabet ≡ b .alphabet → a .compressed ≡ b .compressed → a .class ≡ b .class → a .language ≡ b .language → a .deletion ≡ b .deletion → a .notice ≡ b .notice → a .prefix ≡ b .prefix → a .reserved ≡ b .reserved → a .header ≡ b .header → withoutLetters a ≡ withoutLetters b
+fields a b p₀ p₁ p₂ p₃ p₄ p₅ p₆ p₇ p₈ i = lettered noLetters (p₀ i) (p₁ i) (p₂ i) (p₃ i) (p₄ i) (p₅ i) (p₆ i) (p₇ i) (p₈ i)
 
 -- the digits of a key
-pub record Digits (k a c l n z d p r : ℕ) : Type 0 where
+pub record Digits (k a c l n z d p r h : ℕ) : Type 0 where
   pub alphabet : alphabetDigit k ≡ a
   pub class : classDigit k ≡ c
   pub language : languageDigit k ≡ l
@@ -31,20 +31,21 @@ pub record Digits (k a c l n z d p r : ℕ) : Type 0 where
   pub deletion : deletionDigit k ≡ d
   pub prefix : prefixDigit k ≡ p
   pub reserved : reservedDigit k ≡ r
+  pub header : headerDigit k ≡ h
 
-digits : (a c l n z d p r : ℕ) → a < 8 → c < 8 → l < 32 → n < 64 → z < 2 → d < 2 → p < 2 → r < 2 → Digits (keyFrom a c l n z d p r) a c l n z d p r
-digits a c l n z d p r ha hc hl hn hz hd hp hr =
-    record { alphabet = omega arith; class = omega arith; language = omega arith; notice = omega arith; compressed = omega arith; deletion = omega arith; prefix = omega arith; reserved = omega arith }
+digits : (a c l n z d p r h : ℕ) → a < 8 → c < 8 → l < 32 → n < 64 → z < 2 → d < 2 → p < 2 → r < 2 → h < 2 → Digits (keyFrom a c l n z d p r h) a c l n z d p r h
+digits a c l n z d p r h ha hc hl hn hz hd hp hr hh =
+    record { alphabet = omega arith; class = omega arith; language = omega arith; notice = omega arith; compressed = omega arith; deletion = omega arith; prefix = omega arith; reserved = omega arith; header = omega arith }
 
 -- a place in a list of at most n values is below n
 place-fits : {i m n : ℕ} → i < m → m ≤ n → i < n
 place-fits {i} {m} {n} h l = omega arith
 
 pub key-digits : (r : Reading)
-    → Digits (keyOf r) (alphabetNo (r .alphabet)) (classNo (r .class)) (languageNo (r .language)) (noticeNo (r .notice)) (flagNo (r .compressed)) (flagNo (r .deletion)) (flagNo (r .prefix)) (flagNo (r .reserved))
+    → Digits (keyOf r) (alphabetNo (r .alphabet)) (classNo (r .class)) (languageNo (r .language)) (noticeNo (r .notice)) (flagNo (r .compressed)) (flagNo (r .deletion)) (flagNo (r .prefix)) (flagNo (r .reserved)) (flagNo (r .header))
 unfolding keyOf
 key-digits r =
-    digits _ _ _ _ _ _ _ _ (place-fits (alphabet-named (r .alphabet) .below) (lit≤ tt)) (place-fits (class-named (r .class) .below) (lit≤ tt)) (place-fits (language-named (r .language) .below) (lit≤ tt)) (notice-below (r .notice)) (flag-named (r .compressed) .below) (flag-named (r .deletion) .below) (flag-named (r .prefix) .below) (flag-named (r .reserved) .below)
+    digits _ _ _ _ _ _ _ _ _ (place-fits (alphabet-named (r .alphabet) .below) (lit≤ tt)) (place-fits (class-named (r .class) .below) (lit≤ tt)) (place-fits (language-named (r .language) .below) (lit≤ tt)) (notice-below (r .notice)) (flag-named (r .compressed) .below) (flag-named (r .deletion) .below) (flag-named (r .prefix) .below) (flag-named (r .reserved) .below) (flag-named (r .header) .below)
 
 pub flag-back : (b : Bool) → eqb (flagNo b) 1 ≡ b
 flag-back true = refl
@@ -63,3 +64,4 @@ key-reading r =
     (ap noticeAt (d .notice) ∙ notice-back (r .notice))
     (ap (λ (k : ℕ). eqb k 1) (d .prefix) ∙ flag-back (r .prefix))
     (ap (λ (k : ℕ). eqb k 1) (d .reserved) ∙ flag-back (r .reserved))
+    (ap (λ (k : ℕ). eqb k 1) (d .header) ∙ flag-back (r .header))

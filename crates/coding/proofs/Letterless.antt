@@ -21,21 +21,21 @@ use Rattle.coding.specs.declared.OctetRead.{OctetRead}
 use Rattle.coding.specs.declared.OctetRead.the-variants as read
 use Rattle.coding.specs.Answers.{readReading}
 use Rattle.coding.specs.Readings.{withLetters, withoutLetters}
-use Rattle.coding.specs.OctetRead.{isSet, generalReading, noticeReading, lastReading, readShort, readPage, readUnder, octetReads, octetRules}
+use Rattle.coding.specs.OctetRead.{isSet, generalReading, noticeReading, lastReading, headerReading, readShort, readPage, readUnder, octetReads, octetRules}
 use Rattle.coding.specs.OctetWritten.{smallest, writeRules, octetWrites}
 
 pub letterless : (r : Reading) → r .letters ≡ noLetters → withoutLetters r ≡ r
 letterless r e = ap (λ (t : Letters). withLetters t r) (sym e)
 
 -- a choice of readings without letters has none
-abbrev Bare : Reading → Type 0
+abbrev pub Bare : Reading → Type 0
 Bare r = r .letters ≡ noLetters
 
-either : (t : Bool) (x y : Reading) → Bare x → Bare y → Bare (cond t x y)
+pub either : (t : Bool) (x y : Reading) → Bare x → Bare y → Bare (cond t x y)
 either true x y p q = p
 either false x y p q = q
 
-general-bare : (o : ℕ) (r : Reading) → Bare r → Bare (generalReading o r)
+pub general-bare : (o : ℕ) (r : Reading) → Bare r → Bare (generalReading o r)
 unfolding generalReading
 general-bare o r p = either (eqb (bitsOf o 3 2) 0b11) _ _ refl p
 
@@ -43,9 +43,13 @@ notice-bare : (o : ℕ) (n : Notice) (r : Reading) → Bare r → Bare (noticeRe
 unfolding noticeReading
 notice-bare o n r p = either (isSet o 2) _ _ refl p
 
-last-bare : (o : ℕ) (c : Class) → Bare (lastReading o c)
+pub last-bare : (o : ℕ) (c : Class) → Bare (lastReading o c)
 unfolding lastReading
 last-bare o c = either (isSet o 3) _ _ refl refl
+
+header-bare : (o : ℕ) → Bare (headerReading o)
+unfolding headerReading
+header-bare o = either (eqb (bitsOf o 3 2) 0b11) _ _ refl refl
 
 short-bare : (o : ℕ) → Bare (readShort o)
 unfolding readShort
@@ -65,12 +69,15 @@ page-bare o =
     (either (eqb o 0b0001_0000) _ _ refl
     (either (eqb o 0b0001_0001) _ _ refl
     (either (eqb (bitsOf o 7 4) 0b0001) _ _ refl
-    (either (eqb o 0b0010_0000) _ _ refl
-    (either (eqb (bitsOf o 7 5) 0b001) _ _ refl
+    (either (eqb (bitsOf o 7 4) 0b0010) _ _ (either (ltb 0b0100 (bitsOf o 3 0)) _ _ refl refl)
+    (either (eqb (bitsOf o 7 4) 0b0011) _ _ refl
     (either (eqb (bitsOf o 7 6) 0b01) _ _ (general-bare o _ refl)
-    (either (ltb (bitsOf o 7 4) 0b1110) _ _ refl
+    (either (eqb (bitsOf o 7 4) 0b1000) _ _ refl
+    (either (eqb (bitsOf o 7 4) 0b1001) _ _ (header-bare o)
+    (either (ltb (bitsOf o 7 4) 0b1101) _ _ refl
+    (either (eqb (bitsOf o 7 4) 0b1101) _ _ refl
     (either (eqb (bitsOf o 7 4) 0b1110) _ _ refl
-    (last-bare o _)))))))))
+    (last-bare o _))))))))))))
 
 pub read-letterless : (s : Service) (o : ℕ) → readUnder s o .letters ≡ noLetters
 read-letterless ShortMessage o = short-bare o

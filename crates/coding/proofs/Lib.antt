@@ -5,7 +5,10 @@ pub mod Octets
 pub mod Old
 pub mod Smallest
 pub mod Theorems
+pub mod Former
 pub mod Refuses
+pub mod Unmarked
 pub mod TextOctet
 pub mod Prefixed
+pub mod Headed
 pub mod Outcomes

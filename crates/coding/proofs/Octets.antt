@@ -8,8 +8,8 @@ use lib.Dec.{T, eqb, eqb→eq}
 use Rattle.lists.specs.Bits.{bitOf, gather, bitsOf}
 use Rattle.lists.proofs.Tests.{everyBelow, every-below}
 use Rattle.coding.specs.declared.Reading.{Reading}
-use Rattle.coding.specs.OctetRead.{classIn, discardIn, storeIn, generalReading, noticeReading, lastReading, readShort, readPage}
-use Rattle.keys.specs.Keys.{alphabetDigit, classDigit, languageDigit, generalKey, noticeKey, lastKey, shortKey, pageKey}
+use Rattle.coding.specs.OctetRead.{classIn, discardIn, storeIn, generalReading, noticeReading, lastReading, headerReading, readShort, readPage}
+use Rattle.keys.specs.Keys.{alphabetDigit, classDigit, languageDigit, generalKey, noticeKey, lastKey, shortKey, languageKey, headerKey, pageKey}
 use Rattle.fields.specs.Numbers.{alphabets, classes, languages}
 use Rattle.coding.specs.Inner.{keyOf, readingOf}
 use Rattle.fields.proofs.Numbered.{alphabet-named, class-named, language-named}
@@ -25,7 +25,7 @@ unfolding shortKey generalKey noticeKey lastKey keyOf readShort generalReading n
 short-keyed = tt
 
 page-keyed : T (everyBelow (keyed pageKey readPage) 256)
-unfolding pageKey generalKey lastKey keyOf readPage generalReading lastReading classIn bitsOf gather bitOf
+unfolding pageKey languageKey generalKey headerKey lastKey keyOf readPage generalReading headerReading lastReading classIn bitsOf gather bitOf
 page-keyed = tt
 
 pub short-key-is : (o : ℕ) → o < 256 → shortKey o ≡ keyOf (readShort o)

@@ -23,7 +23,7 @@ use Rattle.fields.specs.Numbers.{flagNo}
 use Rattle.fields.proofs.Numbered.{flag-injective}
 use Rattle.coding.specs.declared.Reading.{Reading}
 use Rattle.coding.specs.declared.OctetRead.the-variants.{Done, Refused}
-use Rattle.coding.specs.OctetRead.{classIn, generalReading, lastReading, readPage, readUnder, octetRules, octetReads}
+use Rattle.coding.specs.OctetRead.{classIn, generalReading, lastReading, headerReading, readPage, readUnder, octetRules, octetReads}
 use Rattle.coding.specs.Holding.{isUcs2}
 use Rattle.coding.specs.LanguageLetters.{isLettered, letteredIn}
 
@@ -31,7 +31,7 @@ abbrev prefixTest : ℕ → Bool
 prefixTest o = eqb (flagNo (readPage o .prefix)) (flagNo (eqb (o / 2) 8))
 
 prefix-tests : T (everyBelow prefixTest 256)
-unfolding readPage generalReading lastReading classIn bitsOf gather bitOf
+unfolding readPage generalReading lastReading headerReading classIn bitsOf gather bitOf
 prefix-tests = tt
 
 pub page-prefix : (o : ℕ) → o < 256 → readPage o .prefix ≡ eqb (o / 2) 8

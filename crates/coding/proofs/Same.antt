@@ -41,6 +41,7 @@ same-sound a b h₀ =
     let h₅ = rest (eqb (flagNo (a .deletion)) (flagNo (b .deletion))) _ h₄ in
     let h₆ = rest (eqb (noticeNo (a .notice)) (noticeNo (b .notice))) _ h₅ in
     let h₇ = rest (eqb (flagNo (a .prefix)) (flagNo (b .prefix))) _ h₆ in
+    let h₈ = rest (eqb (flagNo (a .reserved)) (flagNo (b .reserved))) _ h₇ in
     fields a b
     (alphabet-injective _ _ (eqb→eq _ _ (first (eqb (alphabetNo (a .alphabet)) (alphabetNo (b .alphabet))) _ h₀)))
     (flag-injective _ _ (eqb→eq _ _ (first (eqb (flagNo (a .compressed)) (flagNo (b .compressed))) _ h₁)))
@@ -49,7 +50,8 @@ same-sound a b h₀ =
     (flag-injective _ _ (eqb→eq _ _ (first (eqb (flagNo (a .deletion)) (flagNo (b .deletion))) _ h₄)))
     (notice-injective _ _ (eqb→eq _ _ (first (eqb (noticeNo (a .notice)) (noticeNo (b .notice))) _ h₅)))
     (flag-injective _ _ (eqb→eq _ _ (first (eqb (flagNo (a .prefix)) (flagNo (b .prefix))) _ h₆)))
-    (flag-injective _ _ (eqb→eq _ _ h₇))
+    (flag-injective _ _ (eqb→eq _ _ (first (eqb (flagNo (a .reserved)) (flagNo (b .reserved))) _ h₇)))
+    (flag-injective _ _ (eqb→eq _ _ h₈))
 
 same-itself : (a : Reading) → T (sameCoding a a)
 same-itself a = simp eqb-same tt

@@ -23,7 +23,7 @@ use Rattle.coding.specs.declared.Reading.{Reading}
 use Rattle.coding.specs.declared.OctetRead.the-variants as read
 use Rattle.coding.specs.declared.OctetWritten.{OctetWritten}
 use Rattle.coding.specs.declared.OctetWritten.the-variants.{Done, Refused}
-use Rattle.coding.specs.OctetRead.{classIn, discardIn, storeIn, generalReading, noticeReading, lastReading, readShort, readPage, readUnder, octetRules, octetReads}
+use Rattle.coding.specs.OctetRead.{classIn, discardIn, storeIn, generalReading, noticeReading, lastReading, headerReading, readShort, readPage, readUnder, octetRules, octetReads}
 use Rattle.lists.specs.Bits.{bitOf, gather, bitsOf}
 use Rattle.lists.proofs.Tests.{both}
 use Rattle.coding.specs.OctetWritten.{sameCoding, smallest, writeRules, octetWrites}
@@ -42,13 +42,13 @@ reads-all Ussd o e = refl
 reads-all OldPage o e = absurd (subst T e tt)
 
 -- the three rules of writing, by their tests
-abbrev outcome : Bool → Bool → Bool → ℕ → OctetWritten
+abbrev pub outcome : Bool → Bool → Bool → ℕ → OctetWritten
 outcome old marked absent o = settle (verdict (when old Unwritable ∷ when marked Unwritable ∷ when absent Unwritable ∷ [])) Refused (Done o)
 
 refused-or-done : (o : ℕ) → Refused Unwritable ≡ Done o → ⊥
 refused-or-done o e = let z : _≡_ {A = ℕ} 0 1 = cc in omega arith
 
-told : (old marked absent : Bool) (n o : ℕ) → outcome old marked absent n ≡ Done o → (old ≡ false) × (marked ≡ false) × (absent ≡ false) × (n ≡ o)
+pub told : (old marked absent : Bool) (n o : ℕ) → outcome old marked absent n ≡ Done o → (old ≡ false) × (marked ≡ false) × (absent ≡ false) × (n ≡ o)
 unfolding verdict
 told true marked absent n o e = absurd (refused-or-done o e)
 told false true absent n o e = absurd (refused-or-done o e)
@@ -110,5 +110,5 @@ read-rewritten s o x new l h plain =
 
 -- the counts are right
 pub octet-counts : T (right counts)
-unfolding right counts counted octetWrites writeRules verdict smallest firstPlace numbersFrom readShort readPage generalReading noticeReading lastReading classIn discardIn storeIn bitsOf gather bitOf
+unfolding right counts counted octetWrites writeRules verdict smallest firstPlace numbersFrom readShort readPage generalReading noticeReading lastReading headerReading classIn discardIn storeIn bitsOf gather bitOf
 octet-counts = tt

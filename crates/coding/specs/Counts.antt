@@ -35,7 +35,7 @@ pub data Count : Type 0 where
   count : Service → ℕ → ℕ → Count
 
 unfoldable pub counts : List Count
-counts = count ShortMessage 128 84 ∷ count Broadcast 165 53 ∷ count Ussd 165 53 ∷ []
+counts = count ShortMessage 128 84 ∷ count Broadcast 133 70 ∷ count Ussd 133 70 ∷ []
 
 unfoldable pub right : List Count → Bool
 right [] = true

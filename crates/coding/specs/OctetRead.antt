@@ -1,5 +1,5 @@
--- Document 01, "Reading the data coding octet": the tables in their order, a line for each group.
--- (Short message: TS 23.038 Release 9, clause 4. Broadcast and USSD: GSM 03.38, clause 5. Old page: GSM 03.41 of 1991.)
+-- Document 01, "Reading the data coding octet": the tables in their order, a line for each group. Document 02, W3: broadcast and USSD by clause 5
+-- of source document 003. (Short message and broadcast: TS 23.038 Release 9, clauses 4 and 5. Old page: GSM 03.41 of 1991.)
 -- Own rule: none. Cited by read_octet. Assumes nothing.
 --   readShort o     == how octet o reads in a short message
 --   readPage o      == how it reads in a broadcast page and in USSD
@@ -16,11 +16,11 @@ use Rattle.words.specs.declared.Service.{Service}
 use Rattle.words.specs.declared.Service.the-variants.{ShortMessage, Broadcast, Ussd, OldPage}
 use Rattle.words.specs.declared.Refusal.the-variants.{NoText}
 use Rattle.fields.specs.declared.Alphabet.{Alphabet}
-use Rattle.fields.specs.declared.Alphabet.the-variants.{SevenBit, EightBit, Ucs2, Wap}
+use Rattle.fields.specs.declared.Alphabet.the-variants.{SevenBit, EightBit, Ucs2, Wap, I1}
 use Rattle.fields.specs.declared.Class.{Class}
 use Rattle.fields.specs.declared.Class.the-variants.{Unset, Class0, Class1, Class2, Class3, User1, User2}
 use Rattle.fields.specs.declared.Language.{Language}
-use Rattle.fields.specs.declared.Language.the-variants.{German, English, Italian, French, Spanish, Dutch, Swedish, Danish, Portuguese, Finnish, Norwegian, Greek, Turkish, Hungarian, Polish, Unspecified, Czech}
+use Rattle.fields.specs.declared.Language.the-variants.{German, English, Italian, French, Spanish, Dutch, Swedish, Danish, Portuguese, Finnish, Norwegian, Greek, Turkish, Hungarian, Polish, Unspecified, Czech, Hebrew, Arabic, Russian, Icelandic}
 use Rattle.fields.specs.declared.Kind.{Kind}
 use Rattle.fields.specs.declared.Kind.the-variants.{Voicemail, Fax, Mail, Other}
 use Rattle.fields.specs.declared.Notice.{Notice}
@@ -28,7 +28,7 @@ use Rattle.fields.specs.declared.Notice.the-variants.{Discard, Store}
 use Rattle.coding.specs.declared.Reading.{Reading}
 use Rattle.coding.specs.declared.OctetRead.{OctetRead}
 use Rattle.coding.specs.declared.OctetRead.the-variants.{Done, Refused}
-use Rattle.coding.specs.Readings.{unmentioned, reservedReading, withAlphabet, withCompressed, withClass, withLanguage, withDeletion, withNotice, withPrefix}
+use Rattle.coding.specs.Readings.{unmentioned, reservedReading, withAlphabet, withCompressed, withClass, withLanguage, withDeletion, withNotice, withPrefix, withHeader}
 
 -- bit i is set
 abbrev pub isSet : ℕ → ℕ → Bool
@@ -50,6 +50,10 @@ kindOf k = getD (Voicemail ∷ Fax ∷ Mail ∷ Other ∷ []) k Voicemail
 
 abbrev pub languageOf : ℕ → Language
 languageOf k = getD (German ∷ English ∷ Italian ∷ French ∷ Spanish ∷ Dutch ∷ Swedish ∷ Danish ∷ Portuguese ∷ Finnish ∷ Norwegian ∷ Greek ∷ Turkish ∷ Hungarian ∷ Polish ∷ Unspecified ∷ []) k German
+
+-- 0010 goes on behind the languages of 0000
+abbrev pub furtherLanguageOf : ℕ → Language
+furtherLanguageOf k = getD (Czech ∷ Hebrew ∷ Arabic ∷ Russian ∷ Icelandic ∷ []) k Czech
 
 -- where the test holds the coding is reserved
 abbrev pub reservedIf : Bool → Reading → Reading
@@ -82,6 +86,14 @@ noticeReading o notice r = reservedIf (isSet o 2) (withNotice notice r)
 unfoldable pub lastReading : ℕ → Class → Reading
 lastReading o class = reservedIf (isSet o 3) (withAlphabet (cond (isSet o 2) EightBit SevenBit) (withClass class unmentioned))
 
+-- 1001: bits 3..2 are the alphabet, 11 reserved; bits 1..0 are the class
+unfoldable pub headerReading : ℕ → Reading
+headerReading o =
+    reservedIf (eqb (bitsOf o 3 2) 0b11)
+    (withHeader true
+    (withAlphabet (alphabetOf (bitsOf o 3 2))
+    (withClass (classOf (bitsOf o 1 0)) unmentioned)))
+
 unfoldable pub readShort : ℕ → Reading
 readShort o =
     cond (eqb (bitsOf o 7 6) 0b00) (generalReading o unmentioned)
@@ -98,12 +110,15 @@ readPage o =
     (cond (eqb o 0b0001_0000) (withPrefix true unmentioned)
     (cond (eqb o 0b0001_0001) (withPrefix true (withAlphabet Ucs2 unmentioned))
     (cond (eqb (bitsOf o 7 4) 0b0001) reservedReading
-    (cond (eqb o 0b0010_0000) (withLanguage Czech unmentioned)
-    (cond (eqb (bitsOf o 7 5) 0b001) reservedReading
+    (cond (eqb (bitsOf o 7 4) 0b0010) (reservedIf (ltb 0b0100 (bitsOf o 3 0)) (withLanguage (furtherLanguageOf (bitsOf o 3 0)) unmentioned))
+    (cond (eqb (bitsOf o 7 4) 0b0011) reservedReading
     (cond (eqb (bitsOf o 7 6) 0b01) (generalReading o unmentioned)
-    (cond (ltb (bitsOf o 7 4) 0b1110) reservedReading
+    (cond (eqb (bitsOf o 7 4) 0b1000) reservedReading
+    (cond (eqb (bitsOf o 7 4) 0b1001) (headerReading o)
+    (cond (ltb (bitsOf o 7 4) 0b1101) reservedReading
+    (cond (eqb (bitsOf o 7 4) 0b1101) (withAlphabet I1 unmentioned)
     (cond (eqb (bitsOf o 7 4) 0b1110) (withAlphabet Wap unmentioned)
-    (lastReading o (userClassOf (bitsOf o 1 0)))))))))))
+    (lastReading o (userClassOf (bitsOf o 1 0))))))))))))))
 
 -- only an old page refuses: its bits 3..0 must be 0
 abbrev pub alphabetRules : Service → ℕ → List Rule

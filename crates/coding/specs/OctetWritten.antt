@@ -29,8 +29,9 @@ sameCoding a b =
     (cond (eqb (flagNo (a .deletion)) (flagNo (b .deletion)))
     (cond (eqb (noticeNo (a .notice)) (noticeNo (b .notice)))
     (cond (eqb (flagNo (a .prefix)) (flagNo (b .prefix)))
-    (eqb (flagNo (a .reserved)) (flagNo (b .reserved)))
-    false) false) false) false) false) false) false
+    (cond (eqb (flagNo (a .reserved)) (flagNo (b .reserved)))
+    (eqb (flagNo (a .header)) (flagNo (b .header)))
+    false) false) false) false) false) false) false) false
 
 unfoldable pub smallest : Service → Reading → ℕ
 smallest s r = firstOctet (λ (o : ℕ). sameCoding (readUnder s o) r)

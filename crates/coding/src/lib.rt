@@ -1,6 +1,8 @@
 // The data coding octet: read under a service, and written as the smallest octet that reads so.
 ghost use mathlib.Core.Path.{_≡_};
-ghost use Prim.Native.Nat.{_<_};
+ghost use Prim.Native.Nat.{_<_, _%_};
+ghost use lib.Dec.{ltb};
+ghost use Rattle.words.specs.Sizes.{isOldPage};
 ghost use lib.ListN.{length};
 ghost use Rattle.coding.specs.Readings.{readingFrom, unmentioned, plainIn, withAlphabet, withLetters};
 ghost use Rattle.coding.specs.LanguageLetters.{isLettered, codingWrites};
@@ -12,7 +14,7 @@ ghost use mathlib.Core.Bool.{cond, not, _&&_};
 ghost use Rattle.fields.specs.Letters.{anyLetter};
 ghost use Rattle.keys.specs.Keys.{alphabetDigit, classDigit, languageDigit};
 ghost use Rattle.coding.specs.Holding.{isUcs2, holdsText};
-ghost use Rattle.coding.specs.Inner.{keyOf, readingOf, writtenAs};
+ghost use Rattle.coding.specs.Inner.{keyOf, readingOf, writtenAs, unmarkedHolds};
 use fields::ALPHABETS;
 use fields::Alphabet;
 use fields::CLASSES;
@@ -26,8 +28,10 @@ use fields::notice_at;
 use keys::CLASS;
 use keys::COMPRESSED;
 use keys::DELETION;
+use keys::HEADER;
 use keys::LANGUAGE;
 use keys::NOTICE;
+use keys::PLAIN;
 use keys::PREFIX;
 use keys::RESERVED;
 use words::Refusal;
@@ -43,6 +47,7 @@ pub struct Reading {
     pub notice: Notice,
     pub prefix: bool,
     pub reserved: bool,
+    pub header: bool,
     pub letters: Letters,
 }
 
@@ -76,8 +81,9 @@ impl Reading {
         notice: Notice,
         prefix: bool,
         reserved: bool,
+        header: bool,
     ) -> Self
-        ensures answer { λ r. ⌜ r ≡ readingFrom alphabet compressed class language deletion notice prefix reserved ⌝ }
+        ensures answer { λ r. ⌜ r ≡ readingFrom alphabet compressed class language deletion notice prefix reserved header ⌝ }
     {
         Self {
             alphabet,
@@ -88,6 +94,7 @@ impl Reading {
             notice,
             prefix,
             reserved,
+            header,
             letters: Letters {
                 first: 0,
                 second: 0,
@@ -106,6 +113,7 @@ impl Reading {
             Language::Unspecified,
             false,
             Notice::Nothing,
+            false,
             false,
             false,
         )
@@ -128,6 +136,7 @@ impl Reading {
             notice: notice,
             prefix: self.prefix,
             reserved: self.reserved,
+            header: self.header,
             letters: letters,
         }
     }
@@ -159,6 +168,7 @@ impl Reading {
             + DELETION * (flag(self.deletion) as u32)
             + PREFIX * (flag(self.prefix) as u32)
             + RESERVED * (flag(self.reserved) as u32)
+            + HEADER * (flag(self.header) as u32)
     }
 }
 
@@ -186,6 +196,7 @@ fn reading_of(key: u32) -> Reading
         notice,
         key / PREFIX % 2 == 1,
         key / RESERVED % 2 == 1,
+        key / HEADER % 2 == 1,
     )
 }
 
@@ -193,17 +204,28 @@ fn reading_of(key: u32) -> Reading
 pub fn read_octet(service: Service, octet: u8) -> OctetRead
     ensures answer { λ r. ⌜ r ≡ octetReads service octet ⌝ }
 {
+    if no_alphabet(service, octet) {
+        return OctetRead::Refused(Refusal::NoText);
+    }
+    OctetRead::Done(reading_of(octet_key(service, octet)))
+}
+
+// Whether bits 3..0 of an old page's octet name an alphabet that it does not have.
+fn no_alphabet(service: Service, octet: u8) -> bool
+    ensures { λ r. ⌜ r ≡ (isOldPage service && ltb 0 (octet % 16)) ⌝ }
+{
+    service.is_old_page() && 0 < octet % 16
+}
+
+// The key of what an octet says under a service.
+fn octet_key(service: Service, octet: u8) -> u32
+    ensures { λ r. ⌜ r ≡ keyOf (readUnder service octet) ⌝ }
+{
     match service {
-        Service::ShortMessage => OctetRead::Done(reading_of(short_keys::short_key(octet))),
-        Service::Broadcast => OctetRead::Done(reading_of(page_keys::page_key(octet))),
-        Service::Ussd => OctetRead::Done(reading_of(page_keys::page_key(octet))),
-        Service::OldPage => {
-            if 0 < octet % 16 {
-                OctetRead::Refused(Refusal::NoText)
-            } else {
-                OctetRead::Done(Reading::plain())
-            }
-        }
+        Service::ShortMessage => short_keys::short_key(octet),
+        Service::Broadcast => page_keys::page_key(octet),
+        Service::Ussd => page_keys::page_key(octet),
+        Service::OldPage => PLAIN,
     }
 }
 
@@ -289,6 +311,7 @@ impl Reading {
             Alphabet::EightBit => false,
             Alphabet::Ucs2 => true,
             Alphabet::Wap => false,
+            Alphabet::I1 => false,
         }
     }
 
@@ -304,8 +327,8 @@ impl Reading {
         }
     }
 
-    // Whether it holds text under the service, and if not, why: 1 compressed, 2 8-bit or WAP, 3 the prefix mark. Every service judges
-    // alike; one broadcast page is judged by lettered first.
+    // Whether it holds text under the service, and if not, why: 1 compressed, 2 8-bit, WAP or I1, 3 the prefix mark or the header mark. Every
+    // service judges alike; one broadcast page is judged by lettered first.
     pub fn holds(self, service: Service) -> Held
         ensures answer { λ r. ⌜ r ≡ holdsText service self ⌝ }
     {
@@ -314,23 +337,27 @@ impl Reading {
         }
         let alphabet = self.alphabet;
         match alphabet {
-            Alphabet::SevenBit => {
-                if self.prefix {
-                    Held::Refused(Refusal::Prefixed)
-                } else {
-                    Held::Septets
-                }
-            }
+            Alphabet::SevenBit => self.unmarked(Held::Septets),
             Alphabet::EightBit => Held::Refused(Refusal::NoText),
-            Alphabet::Ucs2 => {
-                if self.prefix {
-                    Held::Refused(Refusal::Prefixed)
-                } else {
-                    Held::Units
-                }
-            }
+            Alphabet::Ucs2 => self.unmarked(Held::Units),
             Alphabet::Wap => Held::Refused(Refusal::NoText),
+            Alphabet::I1 => Held::Refused(Refusal::NoText),
         }
+    }
+}
+
+impl Reading {
+    // That text, but 3 where a mark says that something stands in front of it.
+    fn unmarked(self, text: Held) -> Held
+        ensures { λ r. ⌜ r ≡ unmarkedHolds self text ⌝ }
+    {
+        if self.prefix {
+            return Held::Refused(Refusal::Prefixed);
+        }
+        if self.header {
+            return Held::Refused(Refusal::Prefixed);
+        }
+        text
     }
 }
 

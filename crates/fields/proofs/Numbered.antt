@@ -8,11 +8,11 @@ use native.Mathlib.Omega.{arith}
 use lib.Dec.{lit<}
 use lib.ListN.{length, getD}
 use Rattle.fields.specs.declared.Alphabet.{Alphabet}
-use Rattle.fields.specs.declared.Alphabet.the-variants.{SevenBit, EightBit, Ucs2, Wap}
+use Rattle.fields.specs.declared.Alphabet.the-variants.{SevenBit, EightBit, Ucs2, Wap, I1}
 use Rattle.fields.specs.declared.Class.{Class}
 use Rattle.fields.specs.declared.Class.the-variants.{Unset, Class0, Class1, Class2, Class3, User1, User2}
 use Rattle.fields.specs.declared.Language.{Language}
-use Rattle.fields.specs.declared.Language.the-variants.{German, English, Italian, French, Spanish, Dutch, Swedish, Danish, Portuguese, Finnish, Norwegian, Greek, Turkish, Hungarian, Polish, Unspecified, Czech}
+use Rattle.fields.specs.declared.Language.the-variants.{German, English, Italian, French, Spanish, Dutch, Swedish, Danish, Portuguese, Finnish, Norwegian, Greek, Turkish, Hungarian, Polish, Unspecified, Czech, Hebrew, Arabic, Russian, Icelandic}
 use Rattle.fields.specs.declared.Kind.{Kind}
 use Rattle.fields.specs.declared.Kind.the-variants.{Voicemail, Fax, Mail, Other}
 use Rattle.fields.specs.declared.Notice.{Notice}
@@ -33,6 +33,7 @@ alphabet-named SevenBit = record { back = refl; below = lit< tt }
 alphabet-named EightBit = record { back = refl; below = lit< tt }
 alphabet-named Ucs2 = record { back = refl; below = lit< tt }
 alphabet-named Wap = record { back = refl; below = lit< tt }
+alphabet-named I1 = record { back = refl; below = lit< tt }
 
 pub alphabet-injective : (a b : Alphabet) → alphabetNo a ≡ alphabetNo b → a ≡ b
 alphabet-injective = injective alphabetNo alphabets SevenBit alphabet-named
@@ -67,6 +68,10 @@ language-named Hungarian = record { back = refl; below = lit< tt }
 language-named Polish = record { back = refl; below = lit< tt }
 language-named Unspecified = record { back = refl; below = lit< tt }
 language-named Czech = record { back = refl; below = lit< tt }
+language-named Hebrew = record { back = refl; below = lit< tt }
+language-named Arabic = record { back = refl; below = lit< tt }
+language-named Russian = record { back = refl; below = lit< tt }
+language-named Icelandic = record { back = refl; below = lit< tt }
 
 pub language-injective : (a b : Language) → languageNo a ≡ languageNo b → a ≡ b
 language-injective = injective languageNo languages German language-named

@@ -1,5 +1,5 @@
 -- A number for each value of a reading's fields, no two values of a field the same. They compare readings here, and name the values in C.
--- Own rule: the numbers are ours; languages 0 to 15 are those of bits 3..0. Cited by the number methods, flag and notice_at. Assumes nothing.
+-- Own rule: the numbers are ours; languages 0 to 15 are those of bits 3..0 of group 0000, 16 to 20 those of group 0010. Cited by the number methods, flag and notice_at. Assumes nothing.
 --   alphabetNo, classNo, languageNo, kindNo, noticeNo, flagNo == the number of a value
 --   alphabets, classes, languages, kinds                      == the values in the order of their numbers
 --   noticeAt n                                                == the notice of the number n
@@ -9,11 +9,11 @@ use mathlib.Core.List.{List, [], _∷_}
 use lib.Dec.{eqb, ltb}
 use lib.ListN.{getD}
 use Rattle.fields.specs.declared.Alphabet.{Alphabet}
-use Rattle.fields.specs.declared.Alphabet.the-variants.{SevenBit, EightBit, Ucs2, Wap}
+use Rattle.fields.specs.declared.Alphabet.the-variants.{SevenBit, EightBit, Ucs2, Wap, I1}
 use Rattle.fields.specs.declared.Class.{Class}
 use Rattle.fields.specs.declared.Class.the-variants.{Unset, Class0, Class1, Class2, Class3, User1, User2}
 use Rattle.fields.specs.declared.Language.{Language}
-use Rattle.fields.specs.declared.Language.the-variants.{German, English, Italian, French, Spanish, Dutch, Swedish, Danish, Portuguese, Finnish, Norwegian, Greek, Turkish, Hungarian, Polish, Unspecified, Czech}
+use Rattle.fields.specs.declared.Language.the-variants.{German, English, Italian, French, Spanish, Dutch, Swedish, Danish, Portuguese, Finnish, Norwegian, Greek, Turkish, Hungarian, Polish, Unspecified, Czech, Hebrew, Arabic, Russian, Icelandic}
 use Rattle.fields.specs.declared.Kind.{Kind}
 use Rattle.fields.specs.declared.Kind.the-variants.{Voicemail, Fax, Mail, Other}
 use Rattle.fields.specs.declared.Notice.{Notice}
@@ -24,9 +24,10 @@ alphabetNo SevenBit = 0
 alphabetNo EightBit = 1
 alphabetNo Ucs2 = 2
 alphabetNo Wap = 3
+alphabetNo I1 = 4
 
 abbrev pub alphabets : List Alphabet
-alphabets = SevenBit ∷ EightBit ∷ Ucs2 ∷ Wap ∷ []
+alphabets = SevenBit ∷ EightBit ∷ Ucs2 ∷ Wap ∷ I1 ∷ []
 
 abbrev pub classNo : Class → ℕ
 classNo Unset = 0
@@ -58,9 +59,13 @@ languageNo Hungarian = 13
 languageNo Polish = 14
 languageNo Unspecified = 15
 languageNo Czech = 16
+languageNo Hebrew = 17
+languageNo Arabic = 18
+languageNo Russian = 19
+languageNo Icelandic = 20
 
 abbrev pub languages : List Language
-languages = German ∷ English ∷ Italian ∷ French ∷ Spanish ∷ Dutch ∷ Swedish ∷ Danish ∷ Portuguese ∷ Finnish ∷ Norwegian ∷ Greek ∷ Turkish ∷ Hungarian ∷ Polish ∷ Unspecified ∷ Czech ∷ []
+languages = German ∷ English ∷ Italian ∷ French ∷ Spanish ∷ Dutch ∷ Swedish ∷ Danish ∷ Portuguese ∷ Finnish ∷ Norwegian ∷ Greek ∷ Turkish ∷ Hungarian ∷ Polish ∷ Unspecified ∷ Czech ∷ Hebrew ∷ Arabic ∷ Russian ∷ Icelandic ∷ []
 
 abbrev pub kindNo : Kind → ℕ
 kindNo Voicemail = 0

@@ -8,6 +8,7 @@ pub enum Alphabet {
     EightBit,
     Ucs2,
     Wap,
+    I1,
 }
 
 pub enum Class {
@@ -38,6 +39,10 @@ pub enum Language {
     Polish,
     Unspecified,
     Czech,
+    Hebrew,
+    Arabic,
+    Russian,
+    Icelandic,
 }
 
 // What waits for the subscriber.
@@ -71,6 +76,7 @@ impl Alphabet {
             Alphabet::EightBit => 1,
             Alphabet::Ucs2 => 2,
             Alphabet::Wap => 3,
+            Alphabet::I1 => 4,
         }
     }
 }
@@ -93,7 +99,7 @@ impl Class {
 }
 
 impl Language {
-    // Its number: 0 to 15 as bits 3..0 of group 0000, then Czech.
+    // Its number: 0 to 15 as bits 3..0 of group 0000, then from 16 on as those of group 0010.
     pub fn number(self) -> u8
         ensures answer { λ r. ⌜ r ≡ languageNo self ⌝ }
     {
@@ -115,6 +121,10 @@ impl Language {
             Language::Polish => 14,
             Language::Unspecified => 15,
             Language::Czech => 16,
+            Language::Hebrew => 17,
+            Language::Arabic => 18,
+            Language::Russian => 19,
+            Language::Icelandic => 20,
         }
     }
 }
@@ -158,11 +168,12 @@ impl Notice {
 }
 
 // The values in the order of their numbers.
-pub const ALPHABETS: [Alphabet; 4] = [
+pub const ALPHABETS: [Alphabet; 5] = [
     Alphabet::SevenBit,
     Alphabet::EightBit,
     Alphabet::Ucs2,
     Alphabet::Wap,
+    Alphabet::I1,
 ];
 
 pub const CLASSES: [Class; 7] = [
@@ -175,7 +186,7 @@ pub const CLASSES: [Class; 7] = [
     Class::User2,
 ];
 
-pub const LANGUAGES: [Language; 17] = [
+pub const LANGUAGES: [Language; 21] = [
     Language::German,
     Language::English,
     Language::Italian,
@@ -193,6 +204,10 @@ pub const LANGUAGES: [Language; 17] = [
     Language::Polish,
     Language::Unspecified,
     Language::Czech,
+    Language::Hebrew,
+    Language::Arabic,
+    Language::Russian,
+    Language::Icelandic,
 ];
 
 pub const KINDS: [Kind; 4] = [Kind::Voicemail, Kind::Fax, Kind::Mail, Kind::Other];

@@ -18,10 +18,14 @@ pub const PREFIX: u32 = 524288;
 
 pub const RESERVED: u32 = 1048576;
 
+pub const HEADER: u32 = 2097152;
+
 // The alphabets of a key: 0 is 7-bit, 1 is 8-bit data.
 pub const UCS2: u32 = 2;
 
 pub const WAP: u32 = 3;
+
+pub const I1: u32 = 4;
 
 // The keys of what a rule does not mention, and of a reserved coding.
 pub const PLAIN: u32 = 960;

@@ -8,9 +8,9 @@ use native.Mathlib.Omega.{arith}
 use native.Mathlib.Decide.{decLe}
 use lib.Dec.{T, eqb, ltb, leb, leb→le, eqb→eq}
 use Rattle.lists.proofs.Tests.{both, both-left, both-right, everyBelow, every-below}
-use Rattle.keys.specs.Keys.{alphabetDigit, languageDigit, noticeDigit, prefixDigit, reservedDigit, generalKey, noticeKey, lastKey, shortKey, pageKey}
+use Rattle.keys.specs.Keys.{alphabetDigit, languageDigit, noticeDigit, prefixDigit, reservedDigit, generalKey, noticeKey, lastKey, shortKey, languageKey, headerKey, pageKey}
 use Rattle.octets.specs.Smallest.{firstOctet, shortOctet, pageOctet}
-use Rattle.octets.specs.Inner.{generalTry, shortTry, pageTry}
+use Rattle.octets.specs.Inner.{generalTry, headedTry, shortTry, pageTry}
 use Rattle.octets.proofs.First.{first-most, first-holds, first-least}
 
 -- k is the key of octet o: if it is reserved, what is tried for it has another key, else what is tried is no larger than o and has it
@@ -25,7 +25,7 @@ unfolding shortKey generalKey noticeKey lastKey shortTry generalTry
 short-good = tt
 
 page-good : T (everyBelow (good pageKey pageTry) 256)
-unfolding pageKey generalKey lastKey pageTry generalTry
+unfolding pageKey languageKey generalKey headerKey lastKey pageTry headedTry generalTry
 page-good = tt
 
 -- what the code answers for the key k
@@ -78,7 +78,8 @@ page-try-octet k =
     (below (ltb 15 (languageDigit k)) _ _ 256 (omega arith)
     (below (eqb (prefixDigit k) 1) _ _ 256 (omega arith)
     (below (eqb (alphabetDigit k) 3) _ _ 256 (omega arith)
-    (below (eqb (generalTry k) 0) _ _ 256 (omega arith) (omega arith)))))
+    (below (eqb (alphabetDigit k) 4) _ _ 256 (omega arith)
+    (below (eqb (headedTry k) 0) _ _ 256 (omega arith) (omega arith))))))
 
 pub short-tried : (k : ℕ) → shortOctet k ≡ checkedOctet shortKey shortTry k
 unfolding shortOctet

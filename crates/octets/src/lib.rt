@@ -6,6 +6,8 @@ ghost use Rattle.keys.specs.Keys.{classDigit};
 ghost use Rattle.octets.specs.Inner.{classBits, generalTry, shortTry, pageTry};
 use keys::COMPRESSED;
 use keys::DELETION;
+use keys::HEADER;
+use keys::I1;
 use keys::PLAIN;
 use keys::PREFIX;
 use keys::UCS2;
@@ -14,7 +16,7 @@ use keys::WAP;
 // No octet.
 const NONE: u16 = 256;
 
-// What a class adds to an octet of group 01xx, by its number; a user-defined class lifts it to group 1111.
+// What a class adds to an octet of groups 00xx and 01xx, by its number; a user-defined class lifts it to group 1111.
 const CLASS_BITS: [u8; 8] = [0, 0x10, 0x11, 0x12, 0x13, 0xb1, 0xb2, 0];
 
 fn class_bits(key: u32) -> u8
@@ -51,8 +53,9 @@ fn page_try(key: u32) -> u8
     if language < 15 {
         return language as u8;
     }
+    // Those behind the unspecified one stand from 0x20 on.
     if 15 < language {
-        return 0x20;
+        return (0x10 + language) as u8;
     }
     let alphabet = key % 8;
     if key / PREFIX % 2 == 1 {
@@ -61,7 +64,11 @@ fn page_try(key: u32) -> u8
     if alphabet == WAP {
         return 0xe0;
     }
-    let general = general_try(key);
+    if alphabet == I1 {
+        return 0xd0;
+    }
+    // With the header mark, group 1001 for 01xx.
+    let general = 0x40 * (key / HEADER % 2) + general_try(key);
     if general == 0 {
         0x0f
     } else {

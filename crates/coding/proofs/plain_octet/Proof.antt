@@ -1,7 +1,7 @@
 -- `plain_octet` meets its contract: the definition computes what is tried for a plain reading, and that reads back. Assumes nothing.
 use Rattle.coding.proofs.Smallest.{write-old, write-short, write-broadcast, write-ussd}
-use Rattle.keys.specs.Keys.{generalKey, shortKey, pageKey}
-use Rattle.octets.specs.Inner.{generalTry, shortTry, pageTry}
+use Rattle.keys.specs.Keys.{generalKey, shortKey, languageKey, pageKey}
+use Rattle.octets.specs.Inner.{generalTry, headedTry, shortTry, pageTry}
 use Rattle.octets.proofs.Tried.{short-tried, page-tried}
 use Rattle.coding.specs.Inner.{keyOf, writtenAs}
 use Rattle.coding.specs.OctetWritten.{octetWrites}
@@ -21,12 +21,12 @@ short-plain true = sym (write-short (plainIn true) ∙ ap writtenAs (short-tried
 short-plain false = sym (write-short (plainIn false) ∙ ap writtenAs (short-tried 960))
 
 page-plain : (ucs2 : Bool) → Done (cond ucs2 0x48 0x0f) ≡ octetWrites Broadcast (plainIn ucs2)
-unfolding keyOf pageTry generalTry pageKey generalKey
+unfolding keyOf pageTry headedTry generalTry pageKey languageKey generalKey
 page-plain true = sym (write-broadcast (plainIn true) ∙ ap writtenAs (page-tried 962))
 page-plain false = sym (write-broadcast (plainIn false) ∙ ap writtenAs (page-tried 960))
 
 ussd-plain : (ucs2 : Bool) → Done (cond ucs2 0x48 0x0f) ≡ octetWrites Ussd (plainIn ucs2)
-unfolding keyOf pageTry generalTry pageKey generalKey
+unfolding keyOf pageTry headedTry generalTry pageKey languageKey generalKey
 ussd-plain true = sym (write-ussd (plainIn true) ∙ ap writtenAs (page-tried 962))
 ussd-plain false = sym (write-ussd (plainIn false) ∙ ap writtenAs (page-tried 960))
 

@@ -1,8 +1,8 @@
 -- `page_octet` meets its contract: what is tried is the smallest octet of the key, wherever there is one; for the known keys it is computed.
 -- Assumes nothing.
-use Rattle.keys.specs.Keys.{generalKey, pageKey}
+use Rattle.keys.specs.Keys.{languageKey, generalKey, pageKey}
 use Rattle.octets.specs.Smallest.{pageOctet}
-use Rattle.octets.specs.Inner.{generalTry, pageTry}
+use Rattle.octets.specs.Inner.{generalTry, headedTry, pageTry}
 use Rattle.octets.proofs.Tried.{page-tried}
 use mathlib.Core.Path.{ap, sym, _∙_}
 use borrow.Author.Tests.{eq-eqb, ne-eqb}
@@ -11,14 +11,14 @@ use Rattle.octets.proofs.page_octet.Statement.{statement}
 use Rattle.octets.proofs.page_octet.Tie as tie
 
 returns : tie.Need-returns
-unfolding pageTry generalTry pageKey generalKey
+unfolding pageTry headedTry generalTry pageKey languageKey
 returns c = sym (ap pageOctet (c .if1 .taken) ∙ page-tried 960)
 
 add-if2 : tie.Need-add-if2
 add-if2 c = search needs
 
 returns-2 : tie.Need-returns-2
-unfolding pageTry generalTry pageKey generalKey
+unfolding pageTry headedTry generalTry pageKey generalKey
 returns-2 c = sym (ap pageOctet (c .if2 .taken) ∙ page-tried 962)
 
 page-try-requires : tie.Need-page-try-requires

@@ -94,9 +94,21 @@ mul-result-7 c = search needs
 add-result-7 : tie.Need-add-result-7
 add-result-7 c = search needs
 
+flag-requires-5 : tie.Need-flag-requires-5
+flag-requires-5 c κs = search needs
+
+cast-result-9 : tie.Need-cast-result-9
+cast-result-9 c = search needs
+
+mul-result-8 : tie.Need-mul-result-8
+mul-result-8 c = search needs
+
+add-result-8 : tie.Need-add-result-8
+add-result-8 c = search needs
+
 returns : tie.Need-returns
 unfolding keyOf
-returns c = simp (c .before .before .before .before .before .before .before .number .ensures, c .before .before .before .before .before .before .number2 .ensures, c .before .before .before .before .before .number3 .ensures, c .before .before .before .before .number4 .ensures, c .before .before .before .flag .ensures, c .before .before .flag2 .ensures, c .before .flag3 .ensures, c .flag4 .ensures)
+returns c = simp (c .before .before .before .before .before .before .before .before .number .ensures, c .before .before .before .before .before .before .before .number2 .ensures, c .before .before .before .before .before .before .number3 .ensures, c .before .before .before .before .before .number4 .ensures, c .before .before .before .before .flag .ensures, c .before .before .before .flag2 .ensures, c .before .before .flag3 .ensures, c .before .flag4 .ensures, c .flag5 .ensures)
 
 pub key-spec : {M : Type 1} → statement M
 key-spec =
@@ -132,4 +144,8 @@ key-spec =
     cast-result-8
     mul-result-7
     add-result-7
+    flag-requires-5
+    cast-result-9
+    mul-result-8
+    add-result-8
     returns)
