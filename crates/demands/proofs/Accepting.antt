@@ -11,7 +11,7 @@ use lib.Dec.{ltb}
 use lib.ListN.{length}
 use borrow.Author.Tests.{le-ltb, ltb-false}
 use Rattle.words.specs.declared.Service.{Service}
-use Rattle.words.specs.declared.Refusal.the-variants.{Compressed, NoText, Prefixed, WrongLength, TooLong, Unlisted, NoRoom}
+use Rattle.words.specs.declared.Refusal.the-variants.{WrongLength, TooLong, Unlisted, NoRoom}
 use Rattle.words.specs.Sizes.{isOldPage}
 use Rattle.lists.specs.Lists.{laid}
 use Rattle.words.specs.Judging.{when, Verdict, refused, accepted, verdict}
@@ -22,7 +22,7 @@ use Rattle.coding.specs.declared.OctetWritten.the-variants as octet-written
 use Rattle.coding.specs.OctetRead.{readUnder, octetReads, octetRules}
 use Rattle.coding.specs.OctetWritten.{smallest}
 use Rattle.coding.specs.LanguageLetters.{isLettered, codingRules, codingWrites}
-use Rattle.coding.specs.Holding.{isUcs2, isData, textRules}
+use Rattle.coding.specs.Holding.{isUcs2, textRules}
 use Rattle.coding.proofs.TextOctet.{coding-written, coding-read, coding-complete}
 use Rattle.coding.proofs.Theorems.{settled}
 use Rattle.letters.specs.Writing.{firstUnlisted}
@@ -35,19 +35,11 @@ use Rattle.demands.specs.MessageWritten.{textOctets, textSizeRules, notC
 use Rattle.demands.specs.Demands.{HoldsText, Writable, Readable}
 use Rattle.demands.proofs.Unlettered.{unmarked, mark-rules, size-rules, octets-same, heard-rules, length-rules, text-same, reading-same}
 use Rattle.coding.proofs.Prefixed.{read-given}
-use Rattle.demands.proofs.Steps.{octet-verdict, coding-verdict}
+use Rattle.demands.proofs.Steps.{text-accepted, octet-verdict, coding-verdict}
 
 pub text-accepts : (s : Service) (r : Reading) → HoldsText r → verdict (textRules s r) ≡ accepted
 unfolding textRules verdict
-text-accepts s r h = simp (h .clear, h .text, h .unmarked)
-
-pub text-accepted : (s : Service) (r : Reading) → verdict (textRules s r) ≡ accepted → HoldsText r
-unfolding textRules
-text-accepted s r e =
-    let one = accepted-rule (r .compressed) Compressed (when (isData (r .alphabet)) NoText ∷ when (r .prefix) Prefixed ∷ []) e in
-    let two = accepted-rule (isData (r .alphabet)) NoText (when (r .prefix) Prefixed ∷ []) (one .1) in
-    let three = accepted-rule (r .prefix) Prefixed [] (two .1) in
-    record { clear = one .0; text = two .0; unmarked = three .0 }
+text-accepts s r h = simp (h .clear, h .text, h .unmarked, h .unheaded)
 
 -- ---- the writer
 

@@ -8,6 +8,7 @@ pub mod Octets
 pub mod Demands
 pub mod Lettered
 pub mod Prefixed
+pub mod Headed
 pub mod Refusing
 pub mod Never
 pub mod Cases

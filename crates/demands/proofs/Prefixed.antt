@@ -1,5 +1,6 @@
 -- What letters and the prefix mark do where no letters are in front of a text: a coding with the mark is still 3, and a letter in another coding is 8.
 -- Both follow from the coding octets that have the mark. Assumes nothing.
+--   judged-first         a reading that is written and holds no text is refused so, whatever rules are behind those of the reading
 --   prefixed-first       a writable reading with the mark is refused 3, whatever rules are behind those of the reading
 --   ussd-prefixed-write, ussd-prefixed-read   so 7-bit and UCS2 USSD with the mark is 3, written and read, with letters and without
 --   stray-first, stray-write   a letter without the mark is 8, whatever else is wrong
@@ -10,15 +11,16 @@ use mathlib.Core.Logic.{_⊎_}
 use Prim.Native.Nat.{ℕ, _<_}
 use Rattle.words.specs.declared.Service.{Service}
 use Rattle.words.specs.declared.Service.the-variants.{Broadcast, Ussd}
+use Rattle.words.specs.declared.Refusal.{Refusal}
 use Rattle.words.specs.declared.Refusal.the-variants.{Prefixed, Unwritable}
-use Rattle.words.specs.Judging.{Rule, refused, accepted, verdict}
+use Rattle.words.specs.Judging.{Rule, refused, verdict}
 use Rattle.words.proofs.Judging.{verdict-accepted-first, verdict-refused-first}
 use Rattle.coding.specs.declared.Reading.{Reading}
 use Rattle.coding.specs.declared.OctetWritten.the-variants as octet-written
 use Rattle.coding.specs.Readings.{withoutLetters}
 use Rattle.coding.specs.OctetRead.{octetRules, readPage, readUnder}
 use Rattle.coding.specs.OctetWritten.{octetWrites}
-use Rattle.coding.specs.LanguageLetters.{strayLetters, codingRules}
+use Rattle.coding.specs.LanguageLetters.{strayLetters, codingRules, codingWrites}
 use Rattle.coding.specs.Holding.{textRules}
 use Rattle.coding.proofs.TextOctet.{coding-bare, coding-stray}
 use Rattle.coding.proofs.Theorems.{settled, write-read}
@@ -35,6 +37,13 @@ marked : (s : Service) (r : Reading) → Clear r → r .prefix ≡ true → verd
 unfolding textRules verdict
 marked s r c p = simp (c .clear, c .text, p)
 
+-- a reading that is written is refused as it holds no text, whatever rules are behind
+pub judged-first : (s : Service) (r : Reading) (o : ℕ) (q : Refusal) → codingWrites s r ≡ octet-written.Done o → verdict (textRules s r) ≡ refused q
+    → (rest : List Rule) → verdict (codingRules s r ++ (textRules s r ++ rest)) ≡ refused q
+judged-first s r o q w v rest =
+    verdict-accepted-first (codingRules s r) (textRules s r ++ rest) (coding-verdict s r (octet-written.Done o) (sym w))
+    ∙ verdict-refused-first (textRules s r) rest q v
+
 -- a service that reads its octets by the table of pages
 module _ (s : Service) (same : (o : ℕ) → readUnder s o ≡ readPage o) (r : Reading) (p : r .prefix ≡ true) (o : ℕ) (w : octetWrites s r ≡ octet-written.Done o) where
   written-clear : Clear r
@@ -44,13 +53,8 @@ module _ (s : Service) (same : (o : ℕ) → readUnder s o ≡ readPage o) (r : 
       let c = subst Clear shown (lettered-clear Broadcast o (t .within) (ap (λ (x : Reading). x .prefix) shown ∙ p)) in
       record { clear = c .clear; text = c .text }
 
-  coding-accepts : verdict (codingRules s r) ≡ accepted
-  coding-accepts = coding-verdict s r (octet-written.Done o) (sym (coding-bare s r (simp p) ∙ w))
-
   pub prefixed-first : (rest : List Rule) → verdict (codingRules s r ++ (textRules s r ++ rest)) ≡ refused Prefixed
-  prefixed-first rest =
-      verdict-accepted-first (codingRules s r) (textRules s r ++ rest) coding-accepts
-      ∙ verdict-refused-first (textRules s r) rest Prefixed (marked s r written-clear p)
+  prefixed-first = judged-first s r o Prefixed (coding-bare s r (simp p) ∙ w) (marked s r written-clear p)
 
 pub ussd-prefixed-write : (r : Reading) (t : List ℕ) (room o : ℕ) → r .prefix ≡ true → octetWrites Ussd r ≡ octet-written.Done o → writeAnswers Ussd r t room ≡ written.Refused Prefixed
 unfolding writeAnswers writeRules

@@ -36,6 +36,7 @@ use Rattle.demands.specs.declared.MessageWritten.{MessageWritten}
 use Rattle.demands.specs.declared.MessageWritten.the-variants as written
 use Rattle.demands.specs.MessageRead.{heldText, textLengthRules, textReads, textReadLeaves, textOfMessage, lengthRules, heardRules, readingOfMessage, readRules, readAnswers, readLeaves}
 use Rattle.demands.specs.MessageWritten.{textOctets, textCount, textSizeRules, textWrites, textWriteLeaves, messageOctets, messageCount, sizeRules, markRules, writeRules, writeAnswers, writeLeaves}
+use Rattle.demands.specs.Demands.{HoldsText}
 use Rattle.demands.specs.Inner.{heldReads, heldReadLeaves, shownAs, unitsAs}
 use Rattle.demands.proofs.Unlettered.{unmarked, mark-rules, size-rules, octets-same, heard-rules, length-rules, text-same, reading-same}
 
@@ -152,14 +153,17 @@ holds-text s r ucs2 e =
     which false true e = let z : _≡_ {A = ℕ} 0 1 = cc in absurd (omega arith)
     which false false e = refl
 
+pub text-accepted : (s : Service) (r : Reading) → verdict (textRules s r) ≡ accepted → HoldsText r
+unfolding textRules
+text-accepted s r e =
+    let one = accepted-rule (r .compressed) Compressed (when (isData (r .alphabet)) NoText ∷ when (r .prefix) Prefixed ∷ when (r .header) Prefixed ∷ []) e in
+    let two = accepted-rule (isData (r .alphabet)) NoText (when (r .prefix) Prefixed ∷ when (r .header) Prefixed ∷ []) (one .1) in
+    let three = accepted-rule (r .prefix) Prefixed (when (r .header) Prefixed ∷ []) (two .1) in
+    record { clear = one .0; text = two .0; unmarked = three .0; unheaded = accepted-rule (r .header) Prefixed [] (three .1) .0 }
+
 -- what holds text has no prefix mark, so no letters are in front of it
 held-unlettered : (s : Service) (r : Reading) (ucs2 : Bool) → heldAs ucs2 ≡ holdsText s r → isLettered s r ≡ false
-unfolding textRules
-held-unlettered s r ucs2 e =
-    let v = held-verdict s r (heldAs ucs2) e ∙ told-text ucs2 in
-    let one = accepted-rule (r .compressed) Compressed (when (isData (r .alphabet)) NoText ∷ when (r .prefix) Prefixed ∷ []) v in
-    let two = accepted-rule (isData (r .alphabet)) NoText (when (r .prefix) Prefixed ∷ []) (one .1) in
-    unmarked s r (accepted-rule (r .prefix) Prefixed [] (two .1) .0)
+held-unlettered s r ucs2 e = unmarked s r (text-accepted s r (held-verdict s r (heldAs ucs2) e ∙ told-text ucs2) .unmarked)
 
 module _ (service : Service) (r : Reading) (count : ℕ) (o out : List ℕ) where
   pub held-text : (ucs2 : Bool) → heldAs ucs2 ≡ holdsText service r

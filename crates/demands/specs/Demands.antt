@@ -1,6 +1,6 @@
 -- The words of the three demands, in which their theorems are stated (proofs/Accepting.antt, proofs/Demands.antt).
 -- Own rule: none. Cited by those theorems alone, and by no contract. Assumes nothing.
---   HoldsText r                          == a reading that holds text: not compressed, neither 8-bit nor WAP, no prefix mark
+--   HoldsText r                          == a reading that holds text: not compressed, none of 8-bit, WAP and I1, neither prefix mark nor header mark
 --   Writable service r t room            == no rule of the whole writer refuses the text t under the reading r (8, 1, 2, 3, 6, 5, 7)
 --   Readable service coding count o room r == no rule of the whole reader refuses the octets o, which read as r (1, 2, 3, 4, 7)
 --   LetteredWritable r t room            == none refuses the text t on a broadcast page behind the letters of r (8, 1, 2, 11, 6, 5, 7)
@@ -39,6 +39,7 @@ pub record HoldsText (r : Reading) : Type 0 where
   pub clear : r .compressed ≡ false
   pub text : isData (r .alphabet) ≡ false
   pub unmarked : r .prefix ≡ false
+  pub unheaded : r .header ≡ false
 
 pub record Writable (service : Service) (r : Reading) (t : List ℕ) (room : ℕ) : Type 0 where
   pub new : isOldPage service ≡ false

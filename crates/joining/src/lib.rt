@@ -16,8 +16,8 @@ use words::Refusal;
 use words::Service;
 
 // Joins blocks, lent end to end in any order: the units of their text, what the coding octet says, and the header.
-// Refuses a length that is no multiple of 88 (4), no block (10), by the first block compressed text (1), a coding that holds no text (2), a prefix mark
-// (3), pages that are not those of one message (10), a short buffer (7). Stores the units at the front of out; a refusal stores nothing.
+// Refuses a length that is no multiple of 88 (4), no block (10), by the first block compressed text (1), a coding that holds no text (2), a prefix
+// or header mark (3), pages that are not those of one message (10), a short buffer (7). Stores the units at the front of out; a refusal stores nothing.
 pub fn join_pages(blocks: &[u8], out: &mut [u16]) -> Joined
     ensures answer { λ r. ⌜ r ≡ joinAnswers (now (blocks .entry)) (length (now (out .entry))) ⌝ }
     ensures buffer { λ r. ⌜ now (out .exit) ≡ joinLeaves (now (blocks .entry)) (now (out .entry)) ⌝ }

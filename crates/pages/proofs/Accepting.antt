@@ -32,9 +32,9 @@ use Rattle.coding.proofs.TextOctet.{coding-written, coding-read, coding-complet
 use Rattle.coding.proofs.Theorems.{settled}
 use Rattle.letters.specs.Writing.{firstUnlisted}
 use Rattle.demands.specs.MessageWritten.{notCodable}
-use Rattle.demands.proofs.Accepting.{text-accepts, text-accepted}
+use Rattle.demands.proofs.Accepting.{text-accepts}
 use Rattle.coding.proofs.Prefixed.{read-given}
-use Rattle.demands.proofs.Steps.{coding-verdict}
+use Rattle.demands.proofs.Steps.{text-accepted, coding-verdict}
 use Rattle.pages.specs.declared.Counted.{Counted}
 use Rattle.pages.specs.declared.Counted.the-variants as counted
 use Rattle.pages.specs.declared.PagesWritten.{PagesWritten}

@@ -23,8 +23,8 @@ use writer::Settled;
 use writer::TextCoding;
 
 // How many pages a text takes under a reading.
-// Refuses a reading that cannot be written on a broadcast page (8), compressed text (1), a coding that holds no text (2), a prefix mark (3),
-// a unit that is not in the alphabet (6, the first), more than 15 pages (5).
+// Refuses a reading that cannot be written on a broadcast page (8), compressed text (1), a coding that holds no text (2), a prefix or
+// header mark (3), a unit that is not in the alphabet (6, the first), more than 15 pages (5).
 pub fn count_pages(reading: Reading, units: &[u16]) -> Counted
     ensures answer { λ r. ⌜ r ≡ countAnswers reading (now (units .entry)) ⌝ }
 {

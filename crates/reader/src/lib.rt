@@ -15,9 +15,9 @@ use words::Filled;
 use words::Service;
 
 // Reads a message: the units of its text and what its coding octet says.
-// Refuses compressed text (1), a coding that holds no text (2), a prefix mark (3) but on a broadcast page, octets that do not fit the service or the
-// count (4), on such a page letters of which one is not a to z or no CR behind them (11), a short buffer (7). Stores the units at the front of out; a
-// refusal stores nothing.
+// Refuses compressed text (1), a coding that holds no text (2), a header mark, or a prefix mark but on a broadcast page (3), octets that do not fit the
+// service or the count (4), on such a page letters of which one is not a to z or no CR behind them (11), a short buffer (7). Stores the units at the
+// front of out; a refusal stores nothing.
 pub fn read_message(
     service: Service,
     coding: u8,

@@ -63,8 +63,8 @@ pub enum MessageCoding {
 }
 
 // Writes a message: the octets of a text under a reading, with the length count and the coding octet.
-// Refuses a reading that cannot be written under the service (8), compressed text (1), a coding that holds no text (2), a prefix
-// mark (3; on a broadcast page only letters of which one is not a to z, 11), a unit that is not in the alphabet (6, the first), a text over the
+// Refuses a reading that cannot be written under the service (8), compressed text (1), a coding that holds no text (2), a header
+// mark (3), a prefix mark (3; on a broadcast page only letters of which one is not a to z, 11), a unit that is not in the alphabet (6, the first), a text over the
 // size (5), a short buffer (7). Stores the octets at the front of out; a refusal stores nothing.
 pub fn write_message(
     service: Service,
@@ -79,8 +79,8 @@ pub fn write_message(
 }
 
 // What a reading settles of one message before its text is seen.
-// Refuses a reading that cannot be written under the service (8), compressed text (1), a coding that holds no text (2), a prefix mark (3) but on a
-// broadcast page.
+// Refuses a reading that cannot be written under the service (8), compressed text (1), a coding that holds no text (2), a header mark, or a
+// prefix mark but on a broadcast page (3).
 pub fn code_message(service: Service, reading: Reading) -> MessageCoding
     ensures answer { λ r. ⌜ r ≡ codedAs service reading ⌝ }
 {
@@ -145,7 +145,8 @@ fn paged(code: u8, answer: Filled) -> MessageWritten
 }
 
 // What a reading settles of a text by itself before it is seen.
-// Refuses a reading that cannot be written under the service (8), compressed text (1), a coding that holds no text (2), a prefix mark (3).
+// Refuses a reading that cannot be written under the service (8), compressed text (1), a coding that holds no text (2), a prefix or
+// header mark (3).
 pub fn settle(service: Service, reading: Reading) -> Settled
     ensures answer { λ r. ⌜ r ≡ settledAs service reading ⌝ }
 {
