@@ -46,8 +46,8 @@ extern "C" {
 
 /* Refusals. The numbers are permanent. */
 #define WIKUAY_REFUSED_COMPRESSED 1     /* compressed text */
-#define WIKUAY_REFUSED_NO_TEXT 2        /* the coding holds no text: 8-bit, WAP, an old page's alphabet not 0 */
-#define WIKUAY_REFUSED_PREFIXED 3       /* the coding has the prefix mark, and this is not one broadcast page */
+#define WIKUAY_REFUSED_NO_TEXT 2        /* the coding holds no text: 8-bit, WAP, I1, an old page's alphabet not 0 */
+#define WIKUAY_REFUSED_PREFIXED 3       /* the coding has the prefix mark, but on one broadcast page, or the header mark */
 #define WIKUAY_REFUSED_WRONG_LENGTH 4   /* octets do not fit the service or count, or are not whole blocks or units */
 #define WIKUAY_REFUSED_TOO_LONG 5       /* text over the size of the service or behind letters, or over 15 pages */
 #define WIKUAY_REFUSED_UNLISTED 6       /* a unit is not in the alphabet; position: the first such unit */
@@ -88,7 +88,7 @@ static inline const char *wikuay_refusal_text(uint32_t refusal) {
     case 0: return "nothing is refused";
     case WIKUAY_REFUSED_COMPRESSED: return "the text is compressed";
     case WIKUAY_REFUSED_NO_TEXT: return "the coding holds no text";
-    case WIKUAY_REFUSED_PREFIXED: return "the coding has the prefix mark";
+    case WIKUAY_REFUSED_PREFIXED: return "the coding has the prefix mark or the header mark";
     case WIKUAY_REFUSED_WRONG_LENGTH: return "the octets do not fit the service or the count";
     case WIKUAY_REFUSED_TOO_LONG: return "the text is over the service's size";
     case WIKUAY_REFUSED_UNLISTED: return "a unit is not in the alphabet";
@@ -133,6 +133,7 @@ static inline const char *wikuay_refusal_text(uint32_t refusal) {
 #define WIKUAY_8BIT 1
 #define WIKUAY_UCS2 2
 #define WIKUAY_WAP 3
+#define WIKUAY_I1 4 /* a message of the I1 protocol, 3GPP TS 24.294 */
 
 /* Classes of a reading. */
 #define WIKUAY_NO_CLASS 0
@@ -161,6 +162,10 @@ static inline const char *wikuay_refusal_text(uint32_t refusal) {
 #define WIKUAY_POLISH 14
 #define WIKUAY_NO_LANGUAGE 15 /* unspecified */
 #define WIKUAY_CZECH 16
+#define WIKUAY_HEBREW 17
+#define WIKUAY_ARABIC 18
+#define WIKUAY_RUSSIAN 19
+#define WIKUAY_ICELANDIC 20
 
 /* Waiting notices of a reading: WIKUAY_NO_NOTICE, or how it is kept + whether it is active + its kind. */
 #define WIKUAY_NO_NOTICE 0
@@ -181,13 +186,14 @@ static inline const char *wikuay_refusal_text(uint32_t refusal) {
    broadcast page with the prefix mark, 'a' to 'z', and 0 where absent. Any other number is a wrong letter: none is
    refused as a field that names nothing. */
 typedef struct {
-  uint8_t alphabet;      /* WIKUAY_7BIT .. WIKUAY_WAP */
+  uint8_t alphabet;      /* WIKUAY_7BIT .. WIKUAY_I1 */
   uint8_t compressed;    /* flag */
   uint8_t message_class; /* WIKUAY_NO_CLASS .. WIKUAY_USER_DEFINED_2 */
-  uint8_t language;      /* WIKUAY_GERMAN .. WIKUAY_CZECH */
+  uint8_t language;      /* WIKUAY_GERMAN .. WIKUAY_ICELANDIC */
   uint8_t deletion;      /* flag: the message is marked for automatic deletion */
   uint8_t prefix;        /* flag: the text begins with its language */
   uint8_t reserved;      /* flag: the coding is reserved, and reads as 7-bit text */
+  uint8_t header;        /* flag: the message begins with a user data header */
   uint16_t notice;       /* WIKUAY_NO_NOTICE, or a sum as above */
   uint8_t first_letter;  /* 'a' to 'z', or 0 where absent */
   uint8_t second_letter; /* the same */
@@ -195,7 +201,7 @@ typedef struct {
 
 /* The reading of 7-bit text with nothing special, for any service but the old page. WIKUAY_PLAIN initialises one, and
    wikuay_plain() is one. */
-#define WIKUAY_PLAIN {WIKUAY_7BIT, 0, WIKUAY_NO_CLASS, WIKUAY_NO_LANGUAGE, 0, 0, 0, WIKUAY_NO_NOTICE, 0, 0}
+#define WIKUAY_PLAIN {WIKUAY_7BIT, 0, WIKUAY_NO_CLASS, WIKUAY_NO_LANGUAGE, 0, 0, 0, 0, WIKUAY_NO_NOTICE, 0, 0}
 
 static inline wikuay_reading wikuay_plain(void) {
   wikuay_reading reading = WIKUAY_PLAIN;
@@ -280,7 +286,8 @@ wikuay_answer wikuay_write_coding(uint32_t service, wikuay_reading reading);
 
 /*
  * Which text a reading holds under every service, whatever its language letters are. Clauses 4 and 5.
- * A reading with the prefix mark holds text on one broadcast page alone, so it is refused 3 here.
+ * A reading with the prefix mark holds text on one broadcast page alone, so it is refused 3 here, and one with the
+ * header mark holds none.
  * Refuses: 8 a field that names nothing, 1, 2, 3.
  */
 wikuay_read_answer wikuay_holds_text(wikuay_reading reading);

@@ -76,14 +76,14 @@ at-number : {A : Type 0} (number : A → ℕ) (values : List A) (first : A) (n :
     → (k : ℕ) → k < n → number (getD values k first) ≡ k
 at-number number values first n t k h = eqb→eq _ _ (every-below (λ (j : ℕ). eqb (number (getD values j first)) j) n t k h)
 
-alphabet-at : (k : ℕ) → k < 4 → alphabetNo (getD alphabets k SevenBit) ≡ k
-alphabet-at = at-number alphabetNo alphabets SevenBit 4 tt
+alphabet-at : (k : ℕ) → k < 5 → alphabetNo (getD alphabets k SevenBit) ≡ k
+alphabet-at = at-number alphabetNo alphabets SevenBit 5 tt
 
 class-at : (k : ℕ) → k < 7 → classNo (getD classes k Unset) ≡ k
 class-at = at-number classNo classes Unset 7 tt
 
-language-at : (k : ℕ) → k < 17 → languageNo (getD languages k German) ≡ k
-language-at = at-number languageNo languages German 17 tt
+language-at : (k : ℕ) → k < 21 → languageNo (getD languages k German) ≡ k
+language-at = at-number languageNo languages German 21 tt
 
 kind-at : (k : ℕ) → k < 4 → kindNo (getD kinds k Voicemail) ≡ k
 kind-at = at-number kindNo kinds Voicemail 4 tt
@@ -135,33 +135,36 @@ notice-reads n =
 
 -- what the test of the fields tells
 record Within (x : ReadingNumbers) : Type 0 where
-  pub alphabet : x .alphabet < 4
+  pub alphabet : x .alphabet < 5
   pub class : x .class < 7
-  pub language : x .language < 17
+  pub language : x .language < 21
   pub compressed : x .compressed < 2
   pub deletion : x .deletion < 2
   pub prefix : x .prefix < 2
   pub reserved : x .reserved < 2
+  pub header : x .header < 2
 
 within : (x : ReadingNumbers) → namesFields x ≡ true → Within x
 unfolding namesFields namesFlags
 within x e =
-    let two = and-right (ltb (x .alphabet) 4) _ e in
+    let two = and-right (ltb (x .alphabet) 5) _ e in
     let three = and-right (ltb (x .class) 7) _ two in
-    let four = and-right (ltb (x .language) 17) (namesFlags x) three in
+    let four = and-right (ltb (x .language) 21) (namesFlags x) three in
     let five = and-right (ltb (x .compressed) 2) _ four in
     let six = and-right (ltb (x .deletion) 2) _ five in
+    let seven = and-right (ltb (x .prefix) 2) _ six in
     record {
-      alphabet = ltb-true _ _ (and-left (ltb (x .alphabet) 4) _ e);
+      alphabet = ltb-true _ _ (and-left (ltb (x .alphabet) 5) _ e);
       class = ltb-true _ _ (and-left (ltb (x .class) 7) _ two);
-      language = ltb-true _ _ (and-left (ltb (x .language) 17) (namesFlags x) three);
+      language = ltb-true _ _ (and-left (ltb (x .language) 21) (namesFlags x) three);
       compressed = ltb-true _ _ (and-left (ltb (x .compressed) 2) _ four);
       deletion = ltb-true _ _ (and-left (ltb (x .deletion) 2) _ five);
-      prefix = ltb-true _ _ (and-left (ltb (x .prefix) 2) (ltb (x .reserved) 2) six);
-      reserved = ltb-true _ _ (and-right (ltb (x .prefix) 2) (ltb (x .reserved) 2) six);
+      prefix = ltb-true _ _ (and-left (ltb (x .prefix) 2) _ six);
+      reserved = ltb-true _ _ (and-left (ltb (x .reserved) 2) (ltb (x .header) 2) seven);
+      header = ltb-true _ _ (and-right (ltb (x .reserved) 2) (ltb (x .header) 2) seven);
     }
 
-pub fields-named : (x : ReadingNumbers) → namesFields x ≡ true → (x .alphabet < 4) × (x .class < 7) × (x .language < 17)
+pub fields-named : (x : ReadingNumbers) → namesFields x ≡ true → (x .alphabet < 5) × (x .class < 7) × (x .language < 21)
 fields-named x e = let w = within x e in (w .alphabet, w .class, w .language)
 
 fields-own : (r : Reading) → namesFields (numbersOf r) ≡ true
@@ -175,6 +178,7 @@ fields-own r =
       lt-ltb _ _ (flag-named (r .deletion) .below),
       lt-ltb _ _ (flag-named (r .prefix) .below),
       lt-ltb _ _ (flag-named (r .reserved) .below),
+      lt-ltb _ _ (flag-named (r .header) .below),
     )
 
 with-own : (r : Reading) → readingWith (numbersOf r) (r .notice) ≡ r
@@ -187,6 +191,7 @@ with-own r =
       flag-back (r .deletion),
       flag-back (r .prefix),
       flag-back (r .reserved),
+      flag-back (r .header),
     )
 
 pub reading-named : (r : Reading) → namedReading (numbersOf r) ≡ reading.Named r
@@ -210,6 +215,7 @@ with-numbers x v w e =
       flag-at (x .deletion) (w .deletion),
       flag-at (x .prefix) (w .prefix),
       flag-at (x .reserved) (w .reserved),
+      flag-at (x .header) (w .header),
       e,
     )
 
@@ -235,16 +241,16 @@ low-octet a b c d p q e = go (ltb b d) refl (ltb d b) refl
     go false s false k = let h : b ≡ d = omega (arith, ltb-false b d s, ltb-false d b k) in (omega (arith, e, h), h)
 
 plain-fields : (x : ReadingNumbers) (a : ℕ) → InOctets x → a < 256 → joinedFields x ≡ 0x1000000 * 15 + a
-    → (x .alphabet ≡ a) × (x .compressed ≡ 0) × (x .class ≡ 0) × (x .language ≡ 15) × (x .deletion ≡ 0) × (x .prefix ≡ 0) × (x .reserved ≡ 0)
+    → (x .alphabet ≡ a) × (x .compressed ≡ 0) × (x .class ≡ 0) × (x .language ≡ 15) × (x .deletion ≡ 0) × (x .prefix ≡ 0) × (x .reserved ≡ 0) × (x .header ≡ 0)
 plain-fields x a w h e =
-    let past-language : ℕ = x .deletion + 0x100 * x .prefix + 0x10000 * x .reserved in
+    let past-language : ℕ = x .deletion + 0x100 * x .prefix + 0x10000 * x .reserved + 0x1000000 * x .header in
     let past-class : ℕ = x .language + 0x100 * past-language in
     let past-compressed : ℕ = x .class + 0x100 * past-class in
     let one = low-octet (x .alphabet) (x .compressed + 0x100 * past-compressed) a (0x10000 * 15) (w .alphabet) h (omega (arith, e)) in
     let two = low-octet (x .compressed) past-compressed 0 (0x100 * 15) (w .compressed) (lit< tt) (omega (arith, one .1)) in
     let three = low-octet (x .class) past-class 0 15 (w .class) (lit< tt) (omega (arith, two .1)) in
     let four = low-octet (x .language) past-language 15 0 (w .language) (lit< tt) (omega (arith, three .1)) in
-    (one .0, two .0, three .0, four .0, omega (arith, four .1), omega (arith, four .1), omega (arith, four .1))
+    (one .0, two .0, three .0, four .0, omega (arith, four .1), omega (arith, four .1), omega (arith, four .1), omega (arith, four .1))
 
 alphabet-below : (ucs2 : Bool) → cond ucs2 2 0 < 256
 alphabet-below true = omega arith
@@ -264,14 +270,14 @@ plain-named x ucs2 w z e = by-fields ucs2 (plain-fields x (cond ucs2 2 0) w (alp
     q : x .second ≡ 0
     q = omega (arith, z)
 
-    by-fields : (ucs2 : Bool) → (x .alphabet ≡ cond ucs2 2 0) × (x .compressed ≡ 0) × (x .class ≡ 0) × (x .language ≡ 15) × (x .deletion ≡ 0) × (x .prefix ≡ 0) × (x .reserved ≡ 0)
+    by-fields : (ucs2 : Bool) → (x .alphabet ≡ cond ucs2 2 0) × (x .compressed ≡ 0) × (x .class ≡ 0) × (x .language ≡ 15) × (x .deletion ≡ 0) × (x .prefix ≡ 0) × (x .reserved ≡ 0) × (x .header ≡ 0)
         → namedReading x ≡ reading.Named (plainIn ucs2)
-    by-fields true b = simp (b .0, b .1, b .2, b .3, b .4, b .5, b .6, n, p, q)
-    by-fields false b = simp (b .0, b .1, b .2, b .3, b .4, b .5, b .6, n, p, q)
+    by-fields true b = simp (b .0, b .1, b .2, b .3, b .4, b .5, b .6, b .7, n, p, q)
+    by-fields false b = simp (b .0, b .1, b .2, b .3, b .4, b .5, b .6, b .7, n, p, q)
 
 -- the numbers of a reading that is plain but for its alphabet, its prefix mark and its letters
 abbrev pub row : ℕ → ℕ → ℕ → ℕ → ReadingNumbers
-row alphabet prefix first second = record { alphabet = alphabet; compressed = 0; class = 0; language = 15; deletion = 0; prefix = prefix; reserved = 0; notice = 0; first = first; second = second }
+row alphabet prefix first second = record { alphabet = alphabet; compressed = 0; class = 0; language = 15; deletion = 0; prefix = prefix; reserved = 0; header = 0; notice = 0; first = first; second = second }
 
 pub plain-own : (ucs2 : Bool) → row (cond ucs2 2 0) 0 0 0 ≡ numbersOf (plainIn ucs2)
 plain-own true = refl

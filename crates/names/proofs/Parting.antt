@@ -23,44 +23,48 @@ record Four (k a b c d : ℕ) : Type 0 where
 four-octets : (k a b c d : ℕ) → a < 256 → b < 256 → c < 256 → d < 256 → k ≡ a + 0x100 * b + 0x10000 * c + 0x1000000 * d → Four k a b c d
 four-octets k a b c d ha hb hc hd e = record { one = omega arith; two = omega arith; three = omega arith; four = omega arith }
 
--- three octets, sixteen bits from the 32nd on, and two octets
-record Six (k a b c n f s : ℕ) : Type 0 where
-  pub one : k % 256 ≡ a
-  pub two : k / 0x100 % 256 ≡ b
-  pub three : k / 0x10000 % 256 ≡ c
-  pub four : k / 0x100000000 % 0x10000 ≡ n
-  pub five : k / 0x1000000000000 % 256 ≡ f
-  pub six : k / 0x100000000000000 % 256 ≡ s
+-- four octets, then sixteen bits and two octets
+record Seven (k a b c d n f s : ℕ) : Type 0 where
+  pub front : Four k a b c d
+  pub notice : k / 0x100000000 % 0x10000 ≡ n
+  pub first : k / 0x1000000000000 % 256 ≡ f
+  pub second : k / 0x100000000000000 % 256 ≡ s
 
-six-places : (k a b c n f s : ℕ) → a < 256 → b < 256 → c < 256 → n < 0x10000 → f < 256 → s < 256
-    → k ≡ a + 0x100 * b + 0x10000 * c + 0x100000000 * (n + 0x10000 * f + 0x1000000 * s) → Six k a b c n f s
-six-places k a b c n f s ha hb hc hn hf hs e =
-    record { one = omega arith; two = omega arith; three = omega arith; four = omega arith; five = omega arith; six = omega arith }
+seven-places : (k a b c d n f s : ℕ) → a < 256 → b < 256 → c < 256 → d < 256 → n < 0x10000 → f < 256 → s < 256
+    → k ≡ a + 0x100 * b + 0x10000 * c + 0x1000000 * d + 0x100000000 * (n + 0x10000 * f + 0x1000000 * s) → Seven k a b c d n f s
+seven-places k a b c d n f s ha hb hc hd hn hf hs e =
+    record {
+      front = record { one = omega arith; two = omega arith; three = omega arith; four = omega arith };
+      notice = omega arith;
+      first = omega arith;
+      second = omega arith;
+    }
 
--- seven octets as four and three
-split : (a b c d e f g : ℕ) → a < 256 → b < 256 → c < 256 → d < 256
-    → ((a + 0x100 * b + 0x10000 * c + 0x1000000 * d + 0x100000000 * e + 0x10000000000 * f + 0x1000000000000 * g) % 0x100000000 ≡ a + 0x100 * b + 0x10000 * c + 0x1000000 * d)
-    × ((a + 0x100 * b + 0x10000 * c + 0x1000000 * d + 0x100000000 * e + 0x10000000000 * f + 0x1000000000000 * g) / 0x100000000 ≡ e + 0x100 * f + 0x10000 * g)
-split a b c d e f g ha hb hc hd = (omega arith, omega arith)
+-- eight octets as four and four
+split : (a b c d e f g h : ℕ) → a < 256 → b < 256 → c < 256 → d < 256
+    → ((a + 0x100 * b + 0x10000 * c + 0x1000000 * d + 0x100000000 * e + 0x10000000000 * f + 0x1000000000000 * g + 0x100000000000000 * h) % 0x100000000 ≡ a + 0x100 * b + 0x10000 * c + 0x1000000 * d)
+    × ((a + 0x100 * b + 0x10000 * c + 0x1000000 * d + 0x100000000 * e + 0x10000000000 * f + 0x1000000000000 * g + 0x100000000000000 * h) / 0x100000000 ≡ e + 0x100 * f + 0x10000 * g + 0x1000000 * h)
+split a b c d e f g h ha hb hc hd = (omega arith, omega arith)
 
 pub parted-joined : (x : ReadingNumbers) → InOctets x → x .notice < 0x10000 → x .first < 256 → x .second < 256 → partedNumbers (joinedNumbers x) ≡ x
 unfolding joinedNumbers partedNumbers
 parted-joined x w n p q =
-    let s = split (x .alphabet) (x .compressed) (x .class) (x .language) (x .deletion) (x .prefix) (x .reserved) (w .alphabet) (w .compressed) (w .class) (w .language) in
+    let s = split (x .alphabet) (x .compressed) (x .class) (x .language) (x .deletion) (x .prefix) (x .reserved) (x .header) (w .alphabet) (w .compressed) (w .class) (w .language) in
     let f = four-octets _ (x .alphabet) (x .compressed) (x .class) (x .language) (w .alphabet) (w .compressed) (w .class) (w .language) (s .0) in
-    let b = six-places _ (x .deletion) (x .prefix) (x .reserved) (x .notice) (x .first) (x .second) (w .deletion) (w .prefix) (w .reserved) n p q (ap (λ (k : ℕ). k + 0x100000000 * joinedRest x) (s .1)) in
+    let b = seven-places _ (x .deletion) (x .prefix) (x .reserved) (x .header) (x .notice) (x .first) (x .second) (w .deletion) (w .prefix) (w .reserved) (w .header) n p q (ap (λ (k : ℕ). k + 0x100000000 * joinedRest x) (s .1)) in
     λ i.
     record {
       alphabet = f .one i;
       compressed = f .two i;
       class = f .three i;
       language = f .four i;
-      deletion = b .one i;
-      prefix = b .two i;
-      reserved = b .three i;
-      notice = b .four i;
-      first = b .five i;
-      second = b .six i;
+      deletion = b .front .one i;
+      prefix = b .front .two i;
+      reserved = b .front .three i;
+      header = b .front .four i;
+      notice = b .notice i;
+      first = b .first i;
+      second = b .second i;
     }
 
 -- a number below a small bound is an octet
@@ -78,5 +82,6 @@ parted-own r p q =
       deletion = small (flag-named (r .deletion) .below) (lit≤ tt);
       prefix = small (flag-named (r .prefix) .below) (lit≤ tt);
       reserved = small (flag-named (r .reserved) .below) (lit≤ tt);
+      header = small (flag-named (r .header) .below) (lit≤ tt);
     })
     (small (notice-below (r .notice)) (lit≤ tt)) p q

@@ -12,3 +12,4 @@ pub record InOctets (x : ReadingNumbers) : Type 0 where
   pub deletion : x .deletion < 256
   pub prefix : x .prefix < 256
   pub reserved : x .reserved < 256
+  pub header : x .header < 256

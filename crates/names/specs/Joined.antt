@@ -17,6 +17,7 @@ joinedFields x =
     + 0x100000000 * x .deletion
     + 0x10000000000 * x .prefix
     + 0x1000000000000 * x .reserved
+    + 0x100000000000000 * x .header
 
 abbrev pub joinedRest : ReadingNumbers → ℕ
 joinedRest x = x .notice + 0x10000 * x .first + 0x1000000 * x .second
@@ -38,6 +39,7 @@ partedNumbers j =
       deletion = j .back % 256;
       prefix = j .back / 0x100 % 256;
       reserved = j .back / 0x10000 % 256;
+      header = j .back / 0x1000000 % 256;
       notice = j .back / 0x100000000 % 0x10000;
       first = j .back / 0x1000000000000 % 256;
       second = j .back / 0x100000000000000 % 256;

@@ -43,6 +43,7 @@ numbersOf r =
       deletion = flagNo (r .deletion);
       prefix = flagNo (r .prefix);
       reserved = flagNo (r .reserved);
+      header = flagNo (r .header);
       notice = noticeNo (r .notice);
       first = r .letters .first;
       second = r .letters .second;
@@ -50,10 +51,10 @@ numbersOf r =
 
 -- each field but the notice has a number that names something
 unfoldable pub namesFlags : ReadingNumbers → Bool
-namesFlags x = ltb (x .compressed) 2 && (ltb (x .deletion) 2 && (ltb (x .prefix) 2 && ltb (x .reserved) 2))
+namesFlags x = ltb (x .compressed) 2 && (ltb (x .deletion) 2 && (ltb (x .prefix) 2 && (ltb (x .reserved) 2 && ltb (x .header) 2)))
 
 unfoldable pub namesFields : ReadingNumbers → Bool
-namesFields x = ltb (x .alphabet) 4 && (ltb (x .class) 7 && (ltb (x .language) 17 && namesFlags x))
+namesFields x = ltb (x .alphabet) 5 && (ltb (x .class) 7 && (ltb (x .language) 21 && namesFlags x))
 
 abbrev pub readingWith : ReadingNumbers → Notice → Reading
 readingWith x v =
@@ -66,6 +67,7 @@ readingWith x v =
       notice = v;
       prefix = eqb (x .prefix) 1;
       reserved = eqb (x .reserved) 1;
+      header = eqb (x .header) 1;
       letters = record { first = x .first; second = x .second };
     }
 

@@ -26,13 +26,14 @@ pub struct ReadingNumbers {
     pub deletion: u8,
     pub prefix: u8,
     pub reserved: u8,
+    pub header: u8,
     pub notice: u16,
     pub first: u8,
     pub second: u8,
 }
 
 // The numbers of a reading joined into two. What is known before a message is read goes past the reading of its text so: the compiler keeps two values
-// where ten would go through memory.
+// where eleven would go through memory.
 pub struct JoinedNumbers {
     pub front: u32,
     pub back: u64,
@@ -104,6 +105,9 @@ fn flags(numbers: ReadingNumbers) -> bool
     if 2 <= numbers.reserved {
         return false;
     }
+    if 2 <= numbers.header {
+        return false;
+    }
     true
 }
 
@@ -111,13 +115,13 @@ fn flags(numbers: ReadingNumbers) -> bool
 fn fields(numbers: ReadingNumbers) -> bool
     ensures { λ r. ⌜ r ≡ namesFields numbers ⌝ }
 {
-    if 4 <= numbers.alphabet {
+    if 5 <= numbers.alphabet {
         return false;
     }
     if 7 <= numbers.class {
         return false;
     }
-    if 17 <= numbers.language {
+    if 21 <= numbers.language {
         return false;
     }
     flags(numbers)
@@ -125,7 +129,7 @@ fn fields(numbers: ReadingNumbers) -> bool
 
 // The reading with these numbers and that notice.
 fn with(numbers: ReadingNumbers, notice: Notice) -> Reading
-    requires { ⌜ (numbers .alphabet < 4) × (numbers .class < 7) × (numbers .language < 17) ⌝ }
+    requires { ⌜ (numbers .alphabet < 5) × (numbers .class < 7) × (numbers .language < 21) ⌝ }
     ensures { λ r. ⌜ r ≡ readingWith numbers notice ⌝ }
 {
     let alphabet_no = numbers.alphabet as usize;
@@ -146,6 +150,7 @@ fn with(numbers: ReadingNumbers, notice: Notice) -> Reading
         notice: notice,
         prefix: numbers.prefix == 1,
         reserved: numbers.reserved == 1,
+        header: numbers.header == 1,
         letters: Letters {
             first: numbers.first,
             second: numbers.second,
@@ -171,6 +176,7 @@ fn joined(numbers: ReadingNumbers) -> u64
     let deletion = wide(numbers.deletion);
     let prefix = wide(numbers.prefix);
     let reserved = wide(numbers.reserved);
+    let header = wide(numbers.header);
     alphabet
         + 0x100 * compressed
         + 0x10000 * class
@@ -178,6 +184,7 @@ fn joined(numbers: ReadingNumbers) -> u64
         + 0x100000000 * deletion
         + 0x10000000000 * prefix
         + 0x1000000000000 * reserved
+        + 0x100000000000000 * header
 }
 
 // The notice and the letters as one number, each in bits of its own: one test then tells that there is none.
@@ -213,6 +220,7 @@ pub fn part(joined: JoinedNumbers) -> ReadingNumbers
         deletion: (back % 256) as u8,
         prefix: (back / 0x100 % 256) as u8,
         reserved: (back / 0x10000 % 256) as u8,
+        header: (back / 0x1000000 % 256) as u8,
         notice: (back / 0x100000000 % 0x10000) as u16,
         first: (back / 0x1000000000000 % 256) as u8,
         second: (back / 0x100000000000000 % 256) as u8,
@@ -249,6 +257,7 @@ pub(crate) fn plain_numbers(ucs2: bool) -> ReadingNumbers
         deletion: 0,
         prefix: 0,
         reserved: 0,
+        header: 0,
         notice: 0,
         first: 0,
         second: 0,
@@ -268,6 +277,7 @@ pub fn lettered_numbers(ucs2: bool, letters: Letters) -> ReadingNumbers
         deletion: 0,
         prefix: 1,
         reserved: 0,
+        header: 0,
         notice: 0,
         first: letters.first,
         second: letters.second,
@@ -318,6 +328,7 @@ pub fn numbers(reading: Reading) -> ReadingNumbers
         deletion: flag(reading.deletion),
         prefix: flag(reading.prefix),
         reserved: flag(reading.reserved),
+        header: flag(reading.header),
         notice: notice.number(),
         first: letters.first,
         second: letters.second,

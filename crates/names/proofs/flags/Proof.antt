@@ -22,7 +22,11 @@ returns-4 c = simp (lt-ltb _ _ (c .before .before .before .before .before .befor
 
 returns-5 : tie.Need-returns-5
 unfolding namesFlags
-returns-5 c = simp (lt-ltb _ _ (c .before .before .before .before .before .before .if1 .left), lt-ltb _ _ (c .before .before .before .before .if2 .left), lt-ltb _ _ (c .before .before .if3 .left), lt-ltb _ _ (c .if4 .left))
+returns-5 c = simp (lt-ltb _ _ (c .before .before .before .before .before .before .before .before .if1 .left), lt-ltb _ _ (c .before .before .before .before .before .before .if2 .left), lt-ltb _ _ (c .before .before .before .before .if3 .left), lt-ltb _ _ (c .before .before .if4 .left), le-ltb _ _ (c .if5 .taken))
+
+returns-6 : tie.Need-returns-6
+unfolding namesFlags
+returns-6 c = simp (lt-ltb _ _ (c .before .before .before .before .before .before .before .before .if1 .left), lt-ltb _ _ (c .before .before .before .before .before .before .if2 .left), lt-ltb _ _ (c .before .before .before .before .if3 .left), lt-ltb _ _ (c .before .before .if4 .left), lt-ltb _ _ (c .if5 .left))
 
 pub flags-spec : {M : Type 1} → statement M
-flags-spec = tie.close (tie.spec returns returns-2 returns-3 returns-4 returns-5)
+flags-spec = tie.close (tie.spec returns returns-2 returns-3 returns-4 returns-5 returns-6)

@@ -24,11 +24,14 @@ flag-requires-3 c κs = search needs
 flag-requires-4 : tie.Need-flag-requires-4
 flag-requires-4 c κs = search needs
 
+flag-requires-5 : tie.Need-flag-requires-5
+flag-requires-5 c κs = search needs
+
 number-requires-4 : tie.Need-number-requires-4
 number-requires-4 c κs = search needs
 
 returns : tie.Need-returns
-returns c = simp (c .number4 .ensures, c .before .flag4 .ensures, c .before .before .flag3 .ensures, c .before .before .before .flag2 .ensures, c .before .before .before .before .number3 .ensures, c .before .before .before .before .before .number2 .ensures, c .before .before .before .before .before .before .flag .ensures, c .before .before .before .before .before .before .before .number .ensures)
+returns c = simp (c .number4 .ensures, c .before .flag5 .ensures, c .before .before .flag4 .ensures, c .before .before .before .flag3 .ensures, c .before .before .before .before .flag2 .ensures, c .before .before .before .before .before .number3 .ensures, c .before .before .before .before .before .before .number2 .ensures, c .before .before .before .before .before .before .before .flag .ensures, c .before .before .before .before .before .before .before .before .number .ensures)
 
 pub numbers-spec : {M : Type 1} → statement M
 numbers-spec =
@@ -41,5 +44,6 @@ numbers-spec =
     flag-requires-2
     flag-requires-3
     flag-requires-4
+    flag-requires-5
     number-requires-4
     returns)

@@ -35,6 +35,9 @@ cast-t28 c = search needs
 cast-t31 : tie.Need-cast-t31
 cast-t31 c = search needs
 
+cast-t34 : tie.Need-cast-t34
+cast-t34 c = search needs
+
 returns : tie.Need-returns
 unfolding partedNumbers
 returns c = refl
@@ -53,4 +56,5 @@ part-spec =
     cast-t25
     cast-t28
     cast-t31
+    cast-t34
     returns)
