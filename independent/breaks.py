@@ -9,9 +9,10 @@ implementation's own. The exit status is 0 if each is noticed. Nothing on disk i
 import io
 import sys
 
-FILES = ("scope", "standard", "published", "limits", "damaged", "pages", "letters")
+FILES = ("scope", "standard", "published", "limits", "damaged", "pages", "letters", "release9")
 
-# What is wrong then, the text as it stands, and the text in its place. The text as it stands occurs once.
+# What is wrong then, the text as it stands, and the text in its place; some have two such pairs. The text as it stands
+# occurs once.
 BREAKS = (
     ("USSD is padded with zero bits", "if n % 8 == 7:", "if n % 8 == 9:"),
     ("USSD adds no CR behind a CR at an octet boundary", "if n != 0 and n % 8 == 0 and septets[-1] == CR:",
@@ -35,8 +36,8 @@ BREAKS = (
      "        check_size(len(text), SEPTETS[service])\n        septets = septets_of(text)\n"),
     ("the largest octet is written", "for octet in range(256):", "for octet in range(255, -1, -1):"),
     ("a reserved reading is written", "if service == OLD or reading.reserved:", "if service == OLD:"),
-    ("2 comes before 1", "    if reading.compressed:\n        raise Refused(1)\n    if reading.alphabet in (EIGHT, WAP):\n"
-     "        raise Refused(2)\n", "    if reading.alphabet in (EIGHT, WAP):\n        raise Refused(2)\n"
+    ("2 comes before 1", "    if reading.compressed:\n        raise Refused(1)\n    if reading.alphabet in (EIGHT, WAP, I1):\n"
+     "        raise Refused(2)\n", "    if reading.alphabet in (EIGHT, WAP, I1):\n        raise Refused(2)\n"
      "    if reading.compressed:\n        raise Refused(1)\n"),
     ("a position counts septets", "raise Refused(6, position)", "raise Refused(6, len(septets))"),
     ("the store begins before the room is known", "    if len(out) < len(result):\n        raise Refused(7)\n",
@@ -62,7 +63,7 @@ BREAKS = (
     ("the first eight septets are packed again and again", "for k, septet in enumerate(septets):\n        stream |= septet",
      "for k, septet in enumerate(septets):\n        stream |= septets[k % 8]"),
     ("WAP is reserved", "return Reading(alphabet=WAP)", "return RESERVED"),
-    ("Czech is reserved", 'return Reading(language="czech")', "return RESERVED"),
+    ("Czech is reserved", "if group == 0b0010 and octet & 15 <= 4:", "if group == 0b0010 and 0 < octet & 15 <= 4:"),
     ("code 09 is a small c with cedilla", "0x00F2, 0x00C7,", "0x00F2, 0x00E7,"),
     ("code 24 is a dollar sign", "0x24: 0x00A4, ", ""),
     # Broadcasts of several pages.
@@ -245,12 +246,138 @@ BREAKS = (
      "letters = [octets[0] & 127, 2 * octets[1] + octets[0] // 128]"),
     ("the five spare bits of a page with letters must be 0", "    septets = unpacked(octets, 93)\n    check_letters",
      "    if octets[81] >= 8:\n        raise Refused(4)\n    septets = unpacked(octets, 93)\n    check_letters"),
+    # The codings of Release 9.
+    ("Icelandic is reserved", "if group == 0b0010 and octet & 15 <= 4:", "if group == 0b0010 and octet & 15 <= 3:"),
+    ("25 is Icelandic too", "if group == 0b0010 and octet & 15 <= 4:", "if group == 0b0010 and octet & 15 <= 5:",
+     "return Reading(language=MORE_LANGUAGES[octet & 15])", "return Reading(language=MORE_LANGUAGES[min(octet & 15, 4)])"),
+    ("the languages of group 0010 are one off", "return Reading(language=MORE_LANGUAGES[octet & 15])",
+     "return Reading(language=MORE_LANGUAGES[(octet & 15) - 1])"),
+    ("the languages of group 0010 are UCS2", "return Reading(language=MORE_LANGUAGES[octet & 15])",
+     "return Reading(alphabet=UCS2 if octet & 15 else SEVEN, language=MORE_LANGUAGES[octet & 15])"),
+    ("Arabic and Russian are changed over", '"hebrew", "arabic", "russian", "icelandic")',
+     '"hebrew", "russian", "arabic", "icelandic")'),
+    ("group 0011 goes on with the languages", "if group == 0b0010 and octet & 15 <= 4:",
+     "if group in (0b0010, 0b0011) and octet & 15 <= 4:"),
+    ("group 1001 is reserved", "        return header_coding(octet)\n", "        return RESERVED\n"),
+    ("group 1000 has the header mark", "    if group == 0b1001:\n", "    if group in (0b1000, 0b1001):\n"),
+    ("group 1010 has the header mark", "    if group == 0b1001:\n", "    if group in (0b1001, 0b1010):\n"),
+    ("9C to 9F have the header mark", "    if bit(octet, 3) and bit(octet, 2):\n        return RESERVED\n",
+     "    if bit(octet, 3) and bit(octet, 2):\n        return RESERVED._replace(header=True)\n"),
+    ("9C to 9F keep their class", "    if bit(octet, 3) and bit(octet, 2):\n        return RESERVED\n",
+     "    if bit(octet, 3) and bit(octet, 2):\n        return RESERVED._replace(message_class=CLASSES[octet & 3])\n"),
+    ("9C to 9F are plain text with a header", "    if bit(octet, 3) and bit(octet, 2):\n        return RESERVED\n",
+     "    if bit(octet, 3) and bit(octet, 2):\n        return Reading(message_class=CLASSES[octet & 3], header=True)\n"),
+    ("the class of group 1001 is lost", "message_class=CLASSES[octet & 3], header=True)", "header=True)"),
+    ("the classes of group 1001 are user-defined", "message_class=CLASSES[octet & 3], header=True)",
+     'message_class=("class0", "user1", "user2", "class3")[octet & 3], header=True)'),
+    ("class 0 of group 1001 is no class", "message_class=CLASSES[octet & 3], header=True)",
+     "message_class=CLASSES[octet & 3] if octet & 3 else None, header=True)"),
+    ("the alphabet of group 1001 is 7-bit always", "Reading(alphabet=(SEVEN, EIGHT, UCS2)[(octet >> 2) & 3], message",
+     "Reading(message"),
+    ("8-bit and UCS2 of group 1001 are changed over", "(SEVEN, EIGHT, UCS2)[(octet >> 2) & 3]",
+     "(SEVEN, UCS2, EIGHT)[(octet >> 2) & 3]"),
+    ("group 1001 is compressed by bit 4", "octet & 3], header=True)", "octet & 3], header=True, compressed=bit(octet, 4) == 1)"),
+    ("group 1001 has no header mark", "octet & 3], header=True)", "octet & 3])"),
+    ("a class makes the header mark in group 0101 too", "    if group <= 0b0111:\n        return general_coding(octet)\n",
+     "    if group <= 0b0111:\n        return header_coding(octet) if group == 0b0101 else general_coding(octet)\n"),
+    ("short messages have the header mark", "    if group <= 0b1011:\n        return RESERVED\n",
+     "    if group == 0b1001:\n        return header_coding(octet)\n    if group <= 0b1011:\n        return RESERVED\n"),
+    ("USSD keeps the table of before", "    return read_broadcast_coding(octet)\n",
+     "    reading = read_broadcast_coding(octet)\n"
+     "    later = reading.header or reading.alphabet == I1 or reading.language in MORE_LANGUAGES[1:]\n"
+     "    return RESERVED if service == USSD and later else reading\n"),
+    ("group 1101 is reserved", "return Reading(alphabet=I1)", "return RESERVED"),
+    ("group 1101 is WAP", "return Reading(alphabet=I1)", "return Reading(alphabet=WAP)"),
+    ("group 1101 is 8-bit", "return Reading(alphabet=I1)", "return Reading(alphabet=EIGHT)"),
+    ("group 1100 is I1 too", "    if group <= 0b1100:\n        return RESERVED\n    if group == 0b1101:\n",
+     "    if group <= 0b1011:\n        return RESERVED\n    if group <= 0b1101:\n"),
+    ("I1 keeps bits 1..0 as a class", "return Reading(alphabet=I1)",
+     "return Reading(alphabet=I1, message_class=CLASSES[octet & 3] if octet & 3 else None)"),
+    ("I1 and WAP are changed over", "    if group == 0b1101:\n        return Reading(alphabet=I1)\n    if group == 0b1110:\n",
+     "    if group == 0b1110:\n        return Reading(alphabet=I1)\n    if group == 0b1101:\n"),
+    ("I1 is written DF", "    octet = smallest_octet(service, reading._replace(letter1=0, letter2=0))\n",
+     "    octet = smallest_octet(service, reading._replace(letter1=0, letter2=0))\n"
+     "    octet = 0xDF if octet == 0xD0 and service != SMS else octet\n"),
+    ("I1 holds text", "if reading.alphabet in (EIGHT, WAP, I1):", "if reading.alphabet in (EIGHT, WAP):"),
+    ("I1 is refused 3", "if reading.prefix or reading.header:",
+     "if reading.prefix or reading.header or reading.alphabet == I1:", "if reading.alphabet in (EIGHT, WAP, I1):", "if reading.alphabet in (EIGHT, WAP):"),
+    ("the header mark is ignored everywhere", "if reading.prefix or reading.header:", "if reading.prefix:"),
+    ("the header mark of UCS2 is ignored", "if reading.prefix or reading.header:",
+     "if reading.prefix or reading.header and reading.alphabet == SEVEN:"),
+    ("the header mark is 2", "    if reading.prefix or reading.header:\n        raise Refused(3)\n",
+     "    if reading.header:\n        raise Refused(2)\n    if reading.prefix:\n        raise Refused(3)\n"),
+    ("3 for the header mark comes before 2", "    if reading.alphabet in (EIGHT, WAP, I1):\n",
+     "    if reading.header:\n        raise Refused(3)\n    if reading.alphabet in (EIGHT, WAP, I1):\n"),
+    ("3 for the header mark comes before 1", "    if reading.compressed:\n",
+     "    if reading.header:\n        raise Refused(3)\n    if reading.compressed:\n"),
+    ("the reader lets text with a header through", "    alphabet = message_text(service, reading)\n    check_octets",
+     "    alphabet = message_text(service, reading._replace(header=False))\n    check_octets"),
+    ("the reader lets a broadcast page with a header through", "    alphabet = message_text(service, reading)\n    check_octets",
+     "    alphabet = message_text(service, reading._replace(header=service == USSD and reading.header))\n    check_octets"),
+    ("the reader lets USSD with a header through", "    alphabet = message_text(service, reading)\n    check_octets",
+     "    alphabet = message_text(service, reading._replace(header=service != USSD and reading.header))\n    check_octets"),
+    ("4 comes before the header's 3 on reading", "    alphabet = message_text(service, reading)\n    check_octets",
+     "    if reading.header:\n        check_octets(service, reading.alphabet, octets, count)\n"
+     "    alphabet = message_text(service, reading)\n    check_octets"),
+    ("the writer lets text with a header through", "    alphabet = message_text(service, reading)\n    if is_lettered",
+     "    alphabet = message_text(service, reading._replace(header=False))\n    if is_lettered"),
+    ("the writer lets USSD with a header through", "    alphabet = message_text(service, reading)\n    if is_lettered",
+     "    alphabet = message_text(service, reading._replace(header=service != USSD and reading.header))\n    if is_lettered"),
+    ("the header's 3 comes before 8 on writing", "    coding = message_octet(service, reading)\n    alphabet",
+     "    if reading.header:\n        raise Refused(3)\n    coding = message_octet(service, reading)\n    alphabet"),
+    ("6 comes before the header's 3 on writing", "    alphabet = message_text(service, reading)\n    if is_lettered",
+     "    if reading.header and reading.alphabet == SEVEN:\n        septets_of(text)\n"
+     "    alphabet = message_text(service, reading)\n    if is_lettered"),
+    ("5 comes before the header's 3 on writing", "    alphabet = message_text(service, reading)\n    if is_lettered",
+     "    if reading.header and reading.alphabet != EIGHT:\n"
+     "        check_size(len(text), UNITS[service] if reading.alphabet == UCS2 else SEPTETS[service])\n"
+     "    alphabet = message_text(service, reading)\n    if is_lettered"),
+    ("7 comes before the header's 3 on writing", "    alphabet = message_text(service, reading)\n    if is_lettered",
+     "    if reading.header and not out:\n        raise Refused(7)\n"
+     "    alphabet = message_text(service, reading)\n    if is_lettered"),
+    ("letters are accepted beside the header mark", "if not reading.prefix and (reading.letter1",
+     "if not reading.prefix and not reading.header and (reading.letter1"),
+    ("letters beside the header mark are 3", "    if not reading.prefix and (reading.letter1",
+     "    if reading.header and (reading.letter1 or reading.letter2):\n        raise Refused(3)\n"
+     "    if not reading.prefix and (reading.letter1"),
+    ("writing looks past the header mark", "smallest_octet(service, reading._replace(letter1=0, letter2=0))",
+     "smallest_octet(service, reading._replace(letter1=0, letter2=0, header=False))"),
+    ("the prefix mark and the header mark are written as the header mark",
+     "smallest_octet(service, reading._replace(letter1=0, letter2=0))",
+     "smallest_octet(service, reading._replace(letter1=0, letter2=0, prefix=reading.prefix and not reading.header))"),
+    ("the header mark without a class is written with class 0",
+     "smallest_octet(service, reading._replace(letter1=0, letter2=0))",
+     "smallest_octet(service, reading._replace(letter1=0, letter2=0, message_class="
+     '"class0" if reading.header and not reading.message_class else reading.message_class))'),
+    ("I1 is written past its class", "smallest_octet(service, reading._replace(letter1=0, letter2=0))",
+     "smallest_octet(service, reading._replace(letter1=0, letter2=0, message_class="
+     "None if reading.alphabet == I1 else reading.message_class))"),
+    ("pages with the header mark are counted", 'return {"pages": len(pages_of(text_of(reading), text))}',
+     'return {"pages": len(pages_of(text_of(reading._replace(header=False)), text))}'),
+    ("a page with the header mark is built", "    pages = pages_of(text_of(reading), text)\n    if number < 1",
+     "    pages = pages_of(text_of(reading._replace(header=False)), text)\n    if number < 1"),
+    ("pages with the header mark are written", "    pages = pages_of(text_of(reading), text)\n    octets = []",
+     "    pages = pages_of(text_of(reading._replace(header=False)), text)\n    octets = []"),
+    ("pages with the header mark are joined", "    alphabet = text_of(reading)\n    check_pages(blocks)\n",
+     "    alphabet = text_of(reading._replace(header=False))\n    check_pages(blocks)\n"),
+    ("pages of I1 are joined", "    alphabet = text_of(reading)\n    check_pages(blocks)\n",
+     "    alphabet = SEVEN if reading.alphabet == I1 else text_of(reading)\n    check_pages(blocks)\n"),
+    ("10 comes before the header's 3 on joining", "    alphabet = text_of(reading)\n    check_pages(blocks)\n",
+     "    if reading.header:\n        check_pages(blocks)\n    alphabet = text_of(reading)\n    check_pages(blocks)\n"),
+    ("blocks of one language and another are joined", "if block[:5] != blocks[0][:5]:",
+     "if block[:4] != blocks[0][:4] or block[4] != blocks[0][4] and not (block[4] >> 4 == blocks[0][4] >> 4 == 2):"),
+    ("holding text looks past the header mark", 'return {"holds": text_of(reading)}',
+     'return {"holds": text_of(reading._replace(header=False))}'),
+    ("a refusal for the header mark has the position 1", "    if reading.prefix or reading.header:\n        raise Refused(3)\n",
+     "    if reading.prefix or reading.header:\n        raise Refused(3, int(reading.header))\n"),
 )
 
 
-def broken(source, was, becomes):
-    assert source.count(was) == 1, was
-    return source.replace(was, becomes)
+def broken(source, *changes):
+    for was, becomes in zip(changes[::2], changes[1::2]):
+        assert source.count(was) == 1, was
+        source = source.replace(was, becomes)
+    return source
 
 
 def load(source):
@@ -288,10 +415,10 @@ def main():
     print("| Wrong rule | " + " | ".join(FILES) + " |")
     print("|---" * (len(FILES) + 1) + "|")
     missed = 0
-    for wrong, was, becomes in BREAKS:
+    for wrong, *changes in BREAKS:
         counts = []
         for name in FILES:
-            cases = load(broken(source, was, becomes))
+            cases = load(broken(source, *changes))
             counts.append(differing(cases, texts[name]))
         missed += not any(counts)
         print("| %s | %s |" % (wrong, " | ".join(map(str, counts))))

@@ -28,10 +28,10 @@ class NotACase(Exception):
 
 # Each field of a reading and its words, in the order of docs/CASES.md.
 WORDS = (
-    ("alphabet", ("8bit", "ucs2", "wap")),
+    ("alphabet", ("8bit", "ucs2", "wap", "i1")),
     ("compressed", ("compressed",)),
     ("class", ("class0", "class1", "class2", "class3", "user1", "user2")),
-    ("language", tuple(word for word in wikuay.LANGUAGES if word) + ("czech",)),
+    ("language", tuple(word for word in wikuay.LANGUAGES if word) + wikuay.MORE_LANGUAGES),
     ("deletion", ("deletion",)),
     ("handling", ("discard", "store")),
     ("sense", ("active", "inactive")),
@@ -40,6 +40,7 @@ WORDS = (
     ("reserved", ("reserved",)),
     ("letter1", tuple("letter1:%02X" % octet for octet in range(1, 256))),
     ("letter2", tuple("letter2:%02X" % octet for octet in range(1, 256))),
+    ("header", ("header",)),
 )
 
 
@@ -61,8 +62,8 @@ def parse_reading(value):
     letters = [int(said[field][-2:], 16) if field in said else 0 for field in ("letter1", "letter2")]
     return Reading(alphabet=said.get("alphabet", wikuay.SEVEN), compressed="compressed" in said,
                    message_class=said.get("class"), language=said.get("language"), deletion="deletion" in said,
-                   notice=notice, prefix="prefix" in said, reserved="reserved" in said, letter1=letters[0],
-                   letter2=letters[1])
+                   notice=notice, prefix="prefix" in said, reserved="reserved" in said, header="header" in said,
+                   letter1=letters[0], letter2=letters[1])
 
 
 def print_reading(reading):
@@ -87,6 +88,8 @@ def print_reading(reading):
         words.append("letter1:%02X" % reading.letter1)
     if reading.letter2:
         words.append("letter2:%02X" % reading.letter2)
+    if reading.header:
+        words.append("header")
     return "+".join(words) or "plain"
 
 

@@ -5,8 +5,8 @@
 Every answer is stated by rule, with independent/rules.py. None comes from the second implementation.
 """
 
-from rules import (ALPHABET, CODINGS, CR, EXTENSION, PLAIN_CODING, accepted, bits_of, message_held, octets_of, old_page,
-                   packed, reading, refused, text_held, ucs2, units)
+from rules import (ALPHABET, CODINGS, CR, EARLIER_CODINGS, EXTENSION, PLAIN_CODING, accepted, bits_of, message_held,
+                   octets_of, old_page, packed, reading, refused, text_held, ucs2, units)
 
 HEADER = """\
 # Damaged and odd input against document 01: written by independent/damaged.py. The answer of every line is stated
@@ -65,8 +65,8 @@ def first_seen(words):
 
 
 def written_codings():
-    print("\n# Every reading of every service's octets, written: the smallest octet that reads so, or 8.")
-    every = first_seen(words for table in CODINGS.values() for words in table)
+    print("\n# Every reading of every service's octets before W3, written: the smallest octet that reads so, or 8.")
+    every = first_seen(words for table in EARLIER_CODINGS.values() for words in table)
     odd = ["wap+class1", "8bit+german", "ucs2+english", "ucs2+czech", "compressed+prefix", "8bit+prefix", "class0+prefix",
            "prefix+reserved", "compressed+reserved", "class1+english", "english+deletion", "german+prefix", "ucs2+user1",
            "compressed+user2", "user1+deletion", "wap+compressed", "wap+prefix", "wap+deletion", "wap+reserved",

@@ -9,8 +9,8 @@ of letters below. None comes from the second implementation.
 from typing import NamedTuple
 
 from pages import CODES, changed, flat, head, septets_of, shown, without_end
-from rules import (ALPHABET, BROADCAST_CODINGS, CODINGS, CR, EXTENSION, SMS_CODINGS, accepted, bits_of, octets_of,
-                   old_page, packed, reading, refused, text_held, ucs2, units)
+from rules import (ALPHABET, BROADCAST_CODINGS, CODINGS, CR, EARLIER_CODINGS, EXTENSION, SMS_CODINGS, accepted, bits_of,
+                   octets_of, old_page, packed, reading, refused, text_held, ucs2, units)
 
 HEADER = """\
 # Language letters in front of the text, W2 of document 02: written by independent/letters.py. The answer of every line
@@ -301,8 +301,8 @@ def other_codings():
         refused("letters-stray-%s-%s" % (service, name), "write-message",
                 {"service": service, "reading": reading(letters.words(words)), "text": text, "room": 160}, 8)
 
-    print("\n# Letters with every reading of a broadcast without the prefix mark, and with some of other services: 8.")
-    for service, table in CODINGS.items():
+    print("\n# Letters with every reading of a broadcast before W3 but the prefix mark, and with some of other services: 8.")
+    for service, table in EARLIER_CODINGS.items():
         for number, words in enumerate(dict.fromkeys(table)):
             if "prefix" not in words and (service == "broadcast" or number % 7 == 0):
                 stray("%d" % number, service, words, FORMS[number % 3], [A])
@@ -477,7 +477,7 @@ def writing_pairs():
         refused(refusal_label("write", [6]), "write-message",
                 {"service": "broadcast", "reading": reading(words), "text": text, "room": 82}, 6, position)
 
-    print("\n# Pairs of letters without the prefix mark: 8 comes first. 3 needs the mark, so there no octet reads so.")
+    print("\n# Pairs of letters without the prefix mark: 8 comes first. Those of 3 have the mark, and no octet reads so.")
     for service, long, letters in (("sms", 161, FORMS[1]), ("broadcast", 94, EN), ("broadcast", 94, FORMS[2]),
                                    ("ussd", 183, EN)):
         pair(8, 1, service, letters.words("compressed"), [A], 160)

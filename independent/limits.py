@@ -241,7 +241,7 @@ def rooms():
 
 def pairs():
     bad = [A] * 300 + [HAN]                # deserves 6 at 300, and 5
-    print("\n# Pairs of the whole writer: 8, 1, 2, 3, 6, 5, 7; a broadcast has 11 in the place of 3.")
+    print("\n# Pairs of the whole writer: 8, 1, 2, 3, 6, 5, 7; a broadcast has 11 for the prefix mark.")
     for earlier, later, service, words, text, room, position in (
             (8, 1, "ussd", "compressed+deletion", [A], 160, 0),
             (8, 1, "sms", "compressed+reserved", [A], 160, 0),
@@ -294,7 +294,7 @@ def pairs():
                 {"service": service, "reading": reading(words), "text": text, "room": room},
                 11 if earlier == 3 and service == "broadcast" else earlier, position)
 
-    print("\n# Pairs of the whole reader: 1, 2, 3, 4, 7; a broadcast 1, 2, 4, 11, 7. No octet deserves 1 and 3, or 2 and 3.")
+    print("\n# Pairs of the whole reader: 1, 2, 3, 4, 7; a broadcast 1, 2, 4, 11, 7. W3's are in release9.txt.")
     two = [0x41, 0x21]
     for earlier, later, service, coding, count, octets, room in (
             (1, 2, "sms", 0x24, 2, two, 160),

@@ -10,8 +10,8 @@ import itertools
 import re
 from typing import NamedTuple
 
-from rules import (ALPHABET, BROADCAST_CODINGS, CR, EXTENSION, accepted, bits_of, octets_of, reading, refused, text_held,
-                   units)
+from rules import (ALPHABET, BROADCAST_CODINGS, CR, EARLIER_CODINGS, EXTENSION, accepted, bits_of, octets_of, reading,
+                   refused, text_held, units)
 
 HEADER = """\
 # Broadcasts of several pages, W1 of document 02: written by independent/pages.py. The answer of every line is stated
@@ -343,8 +343,9 @@ def fields():
 # Data codings
 
 def codings():
-    print("\n# Every reading that a broadcast octet has: the smallest octet is written.")
-    for words in sorted(set(BROADCAST_CODINGS)):
+    earlier = EARLIER_CODINGS["broadcast"]
+    print("\n# Every reading that a broadcast octet had before W3: the smallest octet is written.")
+    for words in sorted(set(earlier)):
         held = text_held(words)
         number = 8 if words == "reserved" else held
         coding = BROADCAST_CODINGS.index(words)
@@ -364,12 +365,12 @@ def codings():
                   "prefix+reserved", "class0+reserved", "ucs2+reserved", "czech+prefix"):
         refused("pages-count-reading-" + words.replace("+", "-"), "count-pages",
                 {"reading": reading(words), "text": [A, A]}, 8)
-    print("\n# The last octet of every reading, and the first of each run of reserved ones, on one page that fits both")
-    print("# 7-bit text and UCS2.")
+    print("\n# The last octet of every reading, and the first of each run of reserved ones, as they were before W3, on one")
+    print("# page that fits both 7-bit text and UCS2.")
     page = seven_pages([A, A])[0]
     page_units = [256 * high + low for high, low in zip(page[::2], page[1::2])]
-    first = {octet for octet in range(1, 256) if BROADCAST_CODINGS[octet - 1] != BROADCAST_CODINGS[octet] == "reserved"}
-    last = {words: octet for octet, words in enumerate(BROADCAST_CODINGS)}
+    first = {octet for octet in range(1, 256) if earlier[octet - 1] != earlier[octet] == "reserved"}
+    last = {words: octet for octet, words in enumerate(earlier)}
     for octet in sorted(first | set(last.values())):
         words = BROADCAST_CODINGS[octet]
         held = text_held(words)
@@ -498,10 +499,13 @@ def escapes():
     joined("escape-back", message, message.blocks()[::-1], front + [EURO, A])
     message = seven(stitched())
     joined("escape-stitched-back", message, message.blocks()[::-1], stitched())
-    print("\n# A reserved coding is read as 7-bit text.")
+    print("\n# A reserved coding is read as 7-bit text. DF was reserved before W3, and is 2.")
     for octet in (0x1F, 0x80, 0xDF, 0xF8):
         message = Message("reserved", octet, [], seven(front + [EURO, A]).pages)
-        joined("escape-reserved-%02X" % octet, message, message.blocks(), front + [EURO, A])
+        if octet == 0xDF:
+            not_joined("escape-reserved-DF", flat(message.blocks()), 2, len(front) + 2)
+        else:
+            joined("escape-reserved-%02X" % octet, message, message.blocks(), front + [EURO, A])
 
 
 def changed(block, at, octet):
@@ -704,7 +708,7 @@ def writing_refusals():
 
     for call, order, room in (("count", "8, 1, 2, 3, 6, 5", {}), ("build", "8, 1, 2, 3, 6, 5, 10", {"number": 1}),
                               ("write", "8, 1, 2, 3, 6, 5, 7", {"room": 4096})):
-        print("\n# Refusals of %s, alone and in pairs: %s. No writable reading deserves 1 and 3, or 2 and 3." % (
+        print("\n# Refusals of %s, alone and in pairs: %s. W3's are in release9.txt." % (
             {"count": "counting pages", "build": "building a page", "write": "writing all pages"}[call], order))
         for number, words, text, position in alone:
             each(call, [number], words, text, position, **room)
@@ -727,8 +731,8 @@ def writing_refusals():
 
 
 def joining_refusals():
-    print("\n# Pairs of joining: 4 (no multiple of 88), 10 (no block), 1, 2, 3 (the first block), 10, 7. No octet deserves")
-    print("# 1 and 3, or 2 and 3. Where there is no block, no other refusal is deserved.")
+    print("\n# Pairs of joining: 4 (no multiple of 88), 10 (no block), 1, 2, 3 (the first block), 10, 7. W3's are in")
+    print("# release9.txt. Where there is no block, no other refusal is deserved.")
     page = seven_pages([A])[0]
 
     def block(coding, total, number):

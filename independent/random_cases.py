@@ -3,8 +3,8 @@
 Lengths keep to both sides of the limits, and inputs are for the most part nearly right: a valid input with one thing
 changed reaches further into a call than noise does.
 
-The base, several pages and language letters have a stream each, so that a stream's cases do not change when another
-grows.
+The base, several pages, language letters and W3's codings have a stream each, so that a stream's cases do not change
+when another grows. The first three draw by the coding table of before W3: their inputs stay, and answers follow W3.
 """
 
 import itertools
@@ -39,6 +39,20 @@ def random_service(rng):
 # ---------------------------------------------------------------------------------------------------------------------
 # Readings
 
+# The broadcast octets that W3 gave a meaning. The streams of before draw as if they were reserved still.
+LATER = (*range(0x21, 0x25), *range(0x90, 0x9C), *range(0xD0, 0xE0))
+STILL_RESERVED = 0x80
+
+
+def is_later(service, octet):
+    return service in (wikuay.BROADCAST, wikuay.USSD) and octet in LATER
+
+
+def earlier_reading(service, octet):
+    """What the octet read as before W3."""
+    return wikuay.RESERVED if is_later(service, octet) else wikuay.reading_of(service, octet)
+
+
 def random_fields(rng):
     """A reading of any fields, which most often no octet reads as."""
     notice = Notice(rng.choice(("discard", "store")), rng.random() < 0.5, rng.choice(wikuay.KINDS))
@@ -61,9 +75,9 @@ def random_reading(rng, service):
         service = rng.choice((wikuay.SMS, wikuay.BROADCAST))
     if service == wikuay.OLD:
         return wikuay.PLAIN
-    reading = wikuay.reading_of(service, rng.randrange(256))
+    reading = earlier_reading(service, rng.randrange(256))
     if reading.reserved:  # most octets of a page are: draw once more
-        reading = wikuay.reading_of(service, rng.randrange(256))
+        reading = earlier_reading(service, rng.randrange(256))
     return reading
 
 
@@ -238,7 +252,7 @@ def random_inputs(rng, call):
         return {"septets": random_given_septets(rng, rng.choice((random_length(rng), random_length(rng), 300)))}
     if call == "read-message":
         coding = random_coding(rng, service)
-        ucs2 = service != wikuay.OLD and wikuay.reading_of(service, coding).alphabet == wikuay.UCS2
+        ucs2 = service != wikuay.OLD and earlier_reading(service, coding).alphabet == wikuay.UCS2
         octets, count = (random_ucs2_octets if ucs2 else random_seven_bit_octets)(rng, service)
         if rng.random() < 0.2:
             octets, count = damaged(rng, octets, count)
@@ -267,11 +281,23 @@ def random_case(rng, label):
     return case_of(rng, label, call, random_inputs(rng, call))
 
 
-def case_of(rng, label, call, inputs):
-    """The case of these inputs. A call that is lent a buffer gets a room around what it needs."""
+def earlier_inputs(call, inputs):
+    """The inputs with a coding octet that was reserved before W3 changed over with one that still is."""
+    if call == "read-message" and is_later(inputs["service"], inputs["coding"]):
+        return {**inputs, "coding": STILL_RESERVED}
+    if call == "join-pages" and len(inputs["octets"]) >= wikuay.BLOCK and inputs["octets"][4] in LATER:
+        octets, first = list(inputs["octets"]), inputs["octets"][4]
+        for at in range(4, len(octets), wikuay.BLOCK):
+            octets[at] = {first: STILL_RESERVED, STILL_RESERVED: first}.get(octets[at], octets[at])
+        return {**inputs, "octets": octets}
+    return inputs
+
+
+def case_of(rng, label, call, inputs, earlier=True):
+    """The case of these inputs. A call that is lent a buffer gets a room around what it needs, or needed before W3."""
     if "out" in CALLS[call][2]:
         inputs["room"] = LARGEST_ROOM
-        answer, _ = run_call(call, inputs)
+        answer, _ = run_call(call, earlier_inputs(call, inputs) if earlier else inputs)
         inputs["room"] = random_room(rng, answer["written"])
     answer, _ = run_call(call, inputs)
     return print_case(label, call, inputs, answer)
@@ -342,16 +368,19 @@ def random_page(rng, alphabet, last):
 def random_block_coding(rng):
     """Most often an octet that holds text, a reserved one among them."""
     octet = rng.choice((0x0F, 0x0F, 0x48, 0x48, rng.randrange(256), rng.randrange(256)))
-    reading = wikuay.reading_of(wikuay.BROADCAST, octet)
+    reading = earlier_reading(wikuay.BROADCAST, octet)
     if reading.compressed or reading.alphabet in (wikuay.EIGHT, wikuay.WAP):  # draw once more
         return rng.randrange(256)
     return octet
 
 
 def random_blocks(rng):
-    """The blocks of a message, in order."""
     coding = random_block_coding(rng)
-    alphabet = wikuay.reading_of(wikuay.BROADCAST, coding).alphabet
+    return blocks_of(rng, coding, earlier_reading(wikuay.BROADCAST, coding).alphabet)
+
+
+def blocks_of(rng, coding, alphabet):
+    """The blocks of a message, in order."""
     total = rng.choice((1, 1, 2, 2, 2, 3, 3, 4, rng.randrange(1, 16)))
     sequence, identifier = random_pair(rng), random_pair(rng)
     return [wikuay.block_of(sequence, identifier, coding, total, number, random_page(rng, alphabet, number == total))
@@ -382,8 +411,7 @@ def damaged_blocks(rng, blocks):
     return blocks
 
 
-def random_joined_octets(rng):
-    blocks = random_blocks(rng)
+def random_joined_octets(rng, blocks):
     if rng.random() < 0.7:
         rng.shuffle(blocks)
     if rng.random() < 0.2:
@@ -400,8 +428,12 @@ def random_page_inputs(rng, call):
     if call == "read-header":
         return {"block": [rng.randrange(256) for _ in range(wikuay.BLOCK)]}
     if call == "join-pages":
-        return {"octets": random_joined_octets(rng)}
-    reading = random_page_reading(rng)
+        return {"octets": random_joined_octets(rng, random_blocks(rng))}
+    return page_inputs_of(rng, call, random_page_reading(rng))
+
+
+def page_inputs_of(rng, call, reading):
+    """Inputs of counting, building and writing pages."""
     inputs = {"reading": reading, "text": random_page_text(rng, reading)}
     if call == "count-pages":
         return inputs
@@ -500,6 +532,72 @@ def random_letter_case(rng, label):
 
 
 # ---------------------------------------------------------------------------------------------------------------------
+# The codings of Release 9
+
+RELEASE9_WEIGHTS = {"read-coding": 2, "write-coding": 3, "holds-text": 2, "read-message": 8, "write-message": 8,
+                    "count-pages": 2, "build-page": 2, "write-pages": 2, "join-pages": 3}
+
+# Octets beside those of W3, which have changed for nobody.
+BESIDE = (0x1F, 0x20, 0x25, 0x2F, 0x8F, 0x9C, 0x9D, 0x9E, 0x9F, 0xA0, 0xCF, 0xE0)
+
+
+def random_release9_coding(rng):
+    """Most often a language, which holds text."""
+    kind = rng.random()
+    if kind < 0.45:
+        return rng.randrange(0x21, 0x25)
+    if kind < 0.7:
+        return rng.randrange(0x90, 0x9C)
+    if kind < 0.78:
+        return rng.randrange(0xD0, 0xE0)
+    return rng.choice(BESIDE) if kind < 0.9 else rng.randrange(256)
+
+
+def random_release9_reading(rng):
+    """What such an octet reads as, and now and then with one field changed, so that most often no octet reads so."""
+    reading = wikuay.reading_of(wikuay.BROADCAST, random_release9_coding(rng))
+    if rng.random() < 0.7:
+        return reading
+    return reading._replace(**rng.choice((
+        {"header": not reading.header}, {"header": not reading.header}, {"prefix": True}, {"compressed": True},
+        {"reserved": not reading.reserved}, {"deletion": True}, {"letter1": 0x65, "letter2": 0x6E},
+        {"letter1": random_letter(rng)}, {"language": rng.choice(wikuay.MORE_LANGUAGES + (None,))},
+        {"alphabet": rng.choice((wikuay.SEVEN, wikuay.EIGHT, wikuay.UCS2, wikuay.WAP, wikuay.I1))},
+        {"message_class": rng.choice(wikuay.CLASSES + (None, "user1", "user2"))})))
+
+
+def random_release9_inputs(rng, call):
+    service = rng.choices(wikuay.SERVICES, (1, 10, 8, 1))[0]
+    if call == "read-coding":
+        return {"service": service, "coding": random_release9_coding(rng)}
+    if call == "join-pages":
+        coding = random_release9_coding(rng)
+        blocks = blocks_of(rng, coding, wikuay.reading_of(wikuay.BROADCAST, coding).alphabet)
+        return {"octets": random_joined_octets(rng, blocks)}
+    if call == "read-message":
+        coding = random_release9_coding(rng)
+        ucs2 = service != wikuay.OLD and wikuay.reading_of(service, coding).alphabet == wikuay.UCS2
+        octets, count = (random_ucs2_octets if ucs2 else random_seven_bit_octets)(rng, service)
+        if rng.random() < 0.15:
+            octets, count = damaged(rng, octets, count)
+        return {"service": service, "coding": coding, "count": count, "octets": octets}
+    reading = random_release9_reading(rng)
+    if call in PAGE_WEIGHTS:
+        return page_inputs_of(rng, call, reading)
+    if call == "holds-text":
+        return {"reading": reading}
+    if call == "write-coding":
+        return {"service": service, "reading": reading}
+    text = (random_ucs2_text if reading.alphabet == wikuay.UCS2 else random_text)(rng, random_length(rng))
+    return {"service": service, "reading": reading, "text": text}
+
+
+def random_release9_case(rng, label):
+    call = rng.choices(tuple(RELEASE9_WEIGHTS), tuple(RELEASE9_WEIGHTS.values()))[0]
+    return case_of(rng, label, call, random_release9_inputs(rng, call), earlier=False)
+
+
+# ---------------------------------------------------------------------------------------------------------------------
 # The streams
 
 def base_cases(seed):
@@ -520,8 +618,15 @@ def letters_cases(seed):
         yield random_letter_case(rng, "random-letters-%d-%d" % (seed, n))
 
 
+def release9_cases(seed):
+    rng = random.Random("release9 %d" % seed)
+    for n in itertools.count(1):
+        yield random_release9_case(rng, "random-release9-%d-%d" % (seed, n))
+
+
 def random_cases(number, seed):
-    """All streams, mixed: each fourth case is one of several pages or of language letters, in turn."""
-    base, requests = base_cases(seed), itertools.cycle((page_cases(seed), letters_cases(seed)))
+    """All streams, mixed: each fourth case is one of several pages, of language letters or of Release 9, in turn."""
+    base = base_cases(seed)
+    requests = itertools.cycle((page_cases(seed), letters_cases(seed), release9_cases(seed)))
     for n in range(1, number + 1):
         yield next(base if n % 4 else next(requests))

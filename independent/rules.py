@@ -2,6 +2,9 @@
 
 Nothing here calls the second implementation: the alphabet is characters and not numbers, packing is a string of bits,
 and a data coding octet is a pattern of eight bits. Of cases.py only the spelling of a case is used.
+
+The broadcast and USSD table is W3's. Files of before W3 choose their lines by the table of that time, so that each line
+keeps its place and its inputs, and state their answers by W3's.
 """
 
 from cases import REFUSED, parse_reading, print_case
@@ -112,12 +115,20 @@ def broadcast_patterns():
     yield "00010001", "ucs2+prefix"
     for pattern in ("0001001x", "000101xx", "00011xxx"):
         yield pattern, "reserved"
-    yield "00100000", "czech"
-    for pattern in ("00100001", "0010001x", "001001xx", "00101xxx", "0011xxxx"):
+    for low, language in (("0000", "czech"), ("0001", "hebrew"), ("0010", "arabic"), ("0011", "russian"),
+                          ("0100", "icelandic")):
+        yield "0010" + low, language
+    for pattern in ("00100101", "0010011x", "00101xxx", "0011xxxx"):
         yield pattern, "reserved"
     yield from general_patterns("01", [])
-    for pattern in ("10xxxxxx", "110xxxxx"):
+    yield "1000xxxx", "reserved"
+    for number, low in enumerate(("00", "01", "10", "11")):
+        yield "100100" + low, "class%d+header" % number
+        yield "100101" + low, "8bit+class%d+header" % number
+        yield "100110" + low, "ucs2+class%d+header" % number
+    for pattern in ("100111xx", "101xxxxx", "1100xxxx"):
         yield pattern, "reserved"
+    yield "1101xxxx", "i1"
     yield "1110xxxx", "wap"
     yield "11111xxx", "reserved"
     for low, words in (("00", ""), ("01", "user1"), ("10", "user2"), ("11", "class3")):
@@ -142,7 +153,13 @@ CODINGS = {"sms": SMS_CODINGS, "broadcast": BROADCAST_CODINGS, "ussd": BROADCAST
 
 # Reserved octets, and readings that can be written.
 assert SMS_CODINGS.count("reserved") == 128 and len(set(SMS_CODINGS) - {"reserved"}) == 84
-assert BROADCAST_CODINGS.count("reserved") == 165 and len(set(BROADCAST_CODINGS) - {"reserved"}) == 53
+assert BROADCAST_CODINGS.count("reserved") == 133 and len(set(BROADCAST_CODINGS) - {"reserved"}) == 70
+
+# Words that came with W3. Before, what reads so now was reserved: by these tables the lines of that time are chosen.
+LATER_WORDS = {"hebrew", "arabic", "russian", "icelandic", "header", "i1"}
+EARLIER_CODINGS = {service: ["reserved" if LATER_WORDS & set(words.split("+")) else words for words in table]
+                   for service, table in CODINGS.items()}
+assert EARLIER_CODINGS["sms"] == SMS_CODINGS and EARLIER_CODINGS["ussd"].count("reserved") == 165
 
 
 def text_held(words):
@@ -150,14 +167,14 @@ def text_held(words):
     parts = words.split("+")
     if "compressed" in parts:
         return 1
-    if "8bit" in parts or "wap" in parts:
+    if {"8bit", "wap", "i1"} & set(parts):
         return 2
-    if "prefix" in parts:
+    if {"prefix", "header"} & set(parts):
         return 3
     return "ucs2" if "ucs2" in parts else "7bit"
 
 
 def message_held(service, words):
-    """As text_held, of a whole message that has no language letters: on a broadcast 11 stands in the place of 3."""
+    """As text_held, of a whole message that has no language letters: on a broadcast the prefix mark gives 11 and not 3."""
     held = text_held(words)
-    return 11 if held == 3 and service == "broadcast" else held
+    return 11 if held == 3 and service == "broadcast" and "header" not in words.split("+") else held

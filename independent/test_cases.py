@@ -8,6 +8,7 @@ Run from the root of the repository.
 import collections
 import glob
 import io
+import itertools
 import unittest
 
 import cases
@@ -87,6 +88,22 @@ class Format(unittest.TestCase):
                       "letter1:-"):
             self.assertRaises(cases.NotACase, cases.parse_reading, words)
 
+    def test_words_of_release_9(self):
+        for words, reading in (("i1", wikuay.Reading(alphabet="i1")), ("header", wikuay.Reading(header=True)),
+                               ("hebrew", wikuay.Reading(language="hebrew")), ("arabic", wikuay.Reading(language="arabic")),
+                               ("russian", wikuay.Reading(language="russian")),
+                               ("icelandic", wikuay.Reading(language="icelandic")),
+                               ("ucs2+class1+header", wikuay.Reading(alphabet="ucs2", message_class="class1", header=True)),
+                               ("prefix+reserved+letter1:65+header",
+                                wikuay.Reading(prefix=True, reserved=True, header=True, letter1=0x65))):
+            self.assertEqual(cases.parse_reading(words), reading)
+            self.assertEqual(cases.print_reading(reading), words)
+        for words in ("header+prefix", "header+reserved", "header+class0", "header+letter1:65", "header+header", "headers",
+                      "Header", "header:1", "hebrews", "Hebrew", "czech+hebrew", "hebrew+arabic", "hebrew+class0",
+                      "deletion+russian", "I1", "i2", "i1+wap", "wap+i1", "compressed+i1", "i1+", "icelandic+i1",
+                      "plain+header", "iceland"):
+            self.assertRaises(cases.NotACase, cases.parse_reading, words)
+
     def test_blocks_and_pairs(self):
         self.assertEqual(cases.parse_block("00" * 87 + "FF"), [0] * 87 + [0xFF])
         for value in ("00" * 87, "00" * 89, "00" * 87 + "0", "00" * 87 + "ff", "-", ""):
@@ -108,10 +125,18 @@ class Format(unittest.TestCase):
 
 class Random(unittest.TestCase):
     def test_each_fourth_case_is_one_of_a_request(self):
-        labels = [line.split(" ", 1)[0] for line in random_cases.random_cases(12, 7)]
+        labels = [line.split(" ", 1)[0] for line in random_cases.random_cases(16, 7)]
         self.assertEqual(labels, ["random-7-1", "random-7-2", "random-7-3", "random-pages-7-1",
                                   "random-7-4", "random-7-5", "random-7-6", "random-letters-7-1",
-                                  "random-7-7", "random-7-8", "random-7-9", "random-pages-7-2"])
+                                  "random-7-7", "random-7-8", "random-7-9", "random-release9-7-1",
+                                  "random-7-10", "random-7-11", "random-7-12", "random-pages-7-2"])
+
+    def test_the_streams_of_before_draw_no_word_of_release_9(self):
+        for stream in (random_cases.base_cases, random_cases.page_cases, random_cases.letters_cases):
+            for line in itertools.islice(stream(7), 400):
+                reading = cases.parse_case(line)[2].get("reading", wikuay.PLAIN)
+                self.assertFalse(reading.header or reading.alphabet == wikuay.I1
+                                 or reading.language in wikuay.MORE_LANGUAGES[1:], line)
 
     def test_all_calls_come(self):
         came = {line.split(" ")[1] for line in random_cases.random_cases(400, 1)}

@@ -1,4 +1,4 @@
-"""Unit tests of the second implementation against document 01 and W1 and W2 of document 02.
+"""Unit tests of the second implementation against document 01 and W1 to W3 of document 02.
 
     python3 -m unittest discover independent
 
@@ -115,7 +115,8 @@ class BroadcastCoding(Case):
 
     def test_languages(self):
         for octet, language in ((0x00, "german"), (0x01, "english"), (0x05, "dutch"), (0x0E, "polish"), (0x0F, None),
-                                (0x20, "czech")):
+                                (0x20, "czech"), (0x21, "hebrew"), (0x22, "arabic"), (0x23, "russian"),
+                                (0x24, "icelandic")):
             self.reads(octet, Reading(language=language))
 
     def test_prefix(self):
@@ -123,8 +124,19 @@ class BroadcastCoding(Case):
         self.reads(0x11, Reading(alphabet="ucs2", prefix=True))
 
     def test_reserved(self):
-        for octet in (0x12, 0x1F, 0x21, 0x2F, 0x30, 0x3F, 0x4C, 0x7F, 0x80, 0x90, 0xDF, 0xF8, 0xFF):
+        for octet in (0x12, 0x1F, 0x25, 0x2F, 0x30, 0x31, 0x3F, 0x4C, 0x7F, 0x80, 0x8F, 0x9C, 0x9D, 0x9E, 0x9F, 0xA0, 0xBF,
+                      0xC0, 0xCF, 0xF8, 0xFF):
             self.reads(octet, RESERVED)
+
+    def test_header_group(self):
+        for octet, alphabet, message_class in ((0x90, "7bit", "class0"), (0x91, "7bit", "class1"), (0x92, "7bit", "class2"),
+                                               (0x93, "7bit", "class3"), (0x94, "8bit", "class0"), (0x97, "8bit", "class3"),
+                                               (0x98, "ucs2", "class0"), (0x99, "ucs2", "class1"), (0x9B, "ucs2", "class3")):
+            self.reads(octet, Reading(alphabet=alphabet, message_class=message_class, header=True))
+
+    def test_i1_group(self):
+        for octet in (0xD0, 0xD1, 0xD7, 0xD8, 0xDC, 0xDF):
+            self.reads(octet, Reading(alphabet="i1"))
 
     def test_general_group_has_no_deletion(self):
         self.reads(0x40, PLAIN)
@@ -142,17 +154,28 @@ class BroadcastCoding(Case):
 
     def test_numbers_of_octets_and_readings(self):
         all_readings = [wikuay.reading_of(USSD, octet) for octet in range(256)]
-        self.assertEqual(sum(reading.reserved for reading in all_readings), 165)
-        self.assertEqual(len(set(all_readings) - {RESERVED}), 53)
+        self.assertEqual(sum(reading.reserved for reading in all_readings), 133)
+        self.assertEqual(len(set(all_readings) - {RESERVED}), 70)
 
     def test_smallest_octet(self):
         for octet, written in ((0x40, 0x0F), (0x43, 0x0F), (0xF0, 0x0F), (0xF4, 0x44), (0xF3, 0x53), (0xF7, 0x57),
-                               (0xEF, 0xE0), (0xF1, 0xF1), (0xF2, 0xF2), (0xF5, 0xF5), (0xF6, 0xF6), (0x20, 0x20)):
+                               (0xEF, 0xE0), (0xF1, 0xF1), (0xF2, 0xF2), (0xF5, 0xF5), (0xF6, 0xF6), (0x20, 0x20),
+                               (0x21, 0x21), (0x24, 0x24), (0x90, 0x90), (0x93, 0x93), (0x96, 0x96), (0x9B, 0x9B),
+                               (0xD0, 0xD0), (0xD1, 0xD0), (0xDF, 0xD0)):
             self.assertEqual(wikuay.write_coding(BROADCAST, wikuay.reading_of(BROADCAST, octet)), {"coding": written})
 
     def test_not_writable(self):
         for reading in (RESERVED, Reading(deletion=True), Reading(notice=Notice("store", True, "fax")),
-                        Reading(language="english", message_class="class0")):
+                        Reading(language="english", message_class="class0"), Reading(header=True),
+                        Reading(message_class="user1", header=True),
+                        Reading(message_class="class0", reserved=True, header=True),
+                        Reading(message_class="class0", prefix=True, header=True), Reading(prefix=True, header=True),
+                        Reading(compressed=True, message_class="class0", header=True),
+                        Reading(alphabet="wap", message_class="class0", header=True), Reading(alphabet="i1", header=True),
+                        Reading(alphabet="i1", message_class="class0"), Reading(alphabet="i1", language="hebrew"),
+                        Reading(language="hebrew", header=True), Reading(alphabet="ucs2", language="arabic"),
+                        Reading(language="russian", message_class="class0"), Reading(language="icelandic", prefix=True)):
+            self.refuses(8, 0, wikuay.write_coding, BROADCAST, reading)
             self.refuses(8, 0, wikuay.write_coding, USSD, reading)
 
 
@@ -179,6 +202,11 @@ class HoldsText(Case):
         self.refuses(1, 0, wikuay.holds_text, Reading(alphabet="8bit", compressed=True, prefix=True))
         self.refuses(2, 0, wikuay.holds_text, Reading(alphabet="wap", prefix=True))
         self.refuses(3, 0, wikuay.holds_text, Reading(alphabet="ucs2", prefix=True))
+        self.refuses(1, 0, wikuay.holds_text, Reading(alphabet="i1", compressed=True, header=True))
+        self.refuses(2, 0, wikuay.holds_text, Reading(alphabet="8bit", message_class="class0", header=True))
+        self.refuses(2, 0, wikuay.holds_text, Reading(alphabet="i1"))
+        self.refuses(3, 0, wikuay.holds_text, Reading(alphabet="ucs2", message_class="class3", header=True))
+        self.refuses(3, 0, wikuay.holds_text, Reading(prefix=True, header=True))
 
 
 class Alphabet(Case):
@@ -666,6 +694,83 @@ class Letters(Case):
         self.refuses(4, 0, read, BROADCAST, 0x11, 82, EMPTY_PAGE, room=0)
         self.refuses(11, 0, read, BROADCAST, 0x10, 0, FULL_PAGE, room=0)
         self.refuses(7, 0, read, BROADCAST, 0x10, 0, EN_A, room=0)
+
+
+HEADER = Reading(message_class="class0", header=True)
+UCS2_HEADER = Reading(alphabet="ucs2", message_class="class3", header=True)
+EIGHT_HEADER = Reading(alphabet="8bit", message_class="class1", header=True)
+I1 = Reading(alphabet="i1")
+
+
+class Release9(Case):
+    def test_short_messages_and_old_pages_do_not_move(self):
+        self.assertEqual(wikuay.read_coding(SMS, 0x21), {"reading": Reading(compressed=True)})
+        self.assertEqual(wikuay.read_coding(SMS, 0x90), {"reading": RESERVED})
+        self.assertEqual(wikuay.read_coding(SMS, 0xD1), {"reading": Reading(notice=Notice("store", False, "fax"))})
+        self.assertEqual(wikuay.read_coding(OLD, 0x90), {"reading": PLAIN})
+        self.assertEqual(wikuay.read_coding(OLD, 0xD0), {"reading": PLAIN})
+        self.refuses(2, 0, wikuay.read_coding, OLD, 0x94)
+        for reading in (HEADER, UCS2_HEADER, EIGHT_HEADER, I1, Reading(language="hebrew")):
+            for service in (SMS, OLD):
+                self.refuses(8, 0, wikuay.write_coding, service, reading)
+                self.refuses(8, 0, wikuay.write_message, service, reading, [HAN] * 300, room=0)
+
+    def test_text_under_the_new_languages(self):
+        for octet, language in ((0x21, "hebrew"), (0x22, "arabic"), (0x23, "russian"), (0x24, "icelandic")):
+            reading = Reading(language=language)
+            for service, text, out in ((BROADCAST, [], EMPTY_PAGE), (BROADCAST, [A], A_PAGE),
+                                       (BROADCAST, [A] * 93, FULL_PAGE), (USSD, [], []),
+                                       (USSD, units("AB"), octets("4121"))):
+                self.accepts(wikuay.write_message, service, reading, text, room=83, out=out, count=0, coding=octet)
+                self.accepts(wikuay.read_message, service, octet, 0, out, room=94, out=text, reading=reading)
+            self.refuses(5, 0, wikuay.write_message, BROADCAST, reading, [A] * 94, room=82)
+            self.refuses(5, 0, wikuay.write_message, USSD, reading, [A] * 183, room=160)
+            self.assertEqual(wikuay.count_pages(reading, [A] * 94), {"pages": 2})
+            front = "12345678%02X" % octet
+            self.accepts(wikuay.write_pages, 0x1234, 0x5678, reading, [A] * 94, room=176, pages=2,
+                         out=block(0x12, FULL_PAGE, front) + block(0x22, A_PAGE, front))
+            self.accepts(wikuay.join_pages, block(0x22, A_PAGE, front) + block(0x12, FULL_PAGE, front), room=94,
+                         out=[A] * 94, reading=reading, sequence=0x1234, identifier=0x5678, pages=2)
+
+    def test_reserved_octets_of_the_group_hold_text(self):
+        for octet in (0x9C, 0x9D, 0x9E, 0x9F):
+            self.accepts(wikuay.read_message, BROADCAST, octet, 0, A_PAGE, room=1, out=[A], reading=RESERVED)
+            self.accepts(wikuay.join_pages, block(0x11, A_PAGE, "12345678%02X" % octet), room=1, out=[A], reading=RESERVED,
+                         sequence=0x1234, identifier=0x5678, pages=1)
+
+    def test_the_reader_refuses(self):
+        for octet, number in ((0x90, 3), (0x93, 3), (0x94, 2), (0x97, 2), (0x98, 3), (0x9B, 3), (0xD0, 2), (0xDF, 2)):
+            for service in (BROADCAST, USSD):
+                self.refuses(number, 0, wikuay.read_message, service, octet, 0, A_PAGE, room=93)
+                self.refuses(number, 0, wikuay.read_message, service, octet, 7, A_PAGE[:81] * 2, room=0)
+            self.refuses(number, 0, wikuay.join_pages, block(0x11, A_PAGE, "12345678%02X" % octet), room=93)
+            self.refuses(number, 0, wikuay.join_pages, block(0x12, A_PAGE, "12345678%02X" % octet), room=0)
+            self.refuses(4, 0, wikuay.join_pages, block(0x11, A_PAGE, "12345678%02X" % octet) + [0], room=93)
+
+    def test_the_writer_refuses(self):
+        text = [A] * 1396 + [HAN]
+        for reading, number in ((HEADER, 3), (UCS2_HEADER, 3), (EIGHT_HEADER, 2), (I1, 2)):
+            for service in (BROADCAST, USSD):
+                self.refuses(number, 0, wikuay.write_message, service, reading, [A], room=160)
+                self.refuses(number, 0, wikuay.write_message, service, reading, text, room=0)
+            self.refuses(number, 0, wikuay.count_pages, reading, text)
+            self.refuses(number, 0, wikuay.build_page, 1, 2, reading, text, 0)
+            self.refuses(number, 0, wikuay.write_pages, 1, 2, reading, text, room=0)
+
+    def test_8_comes_first(self):
+        for reading in (Reading(header=True), HEADER._replace(letter1=0x65), UCS2_HEADER._replace(letter2=0x6E),
+                        EIGHT_HEADER._replace(letter1=0x65, letter2=0x6E), HEADER._replace(prefix=True),
+                        SEVEN_EN._replace(header=True), UCS2_EN._replace(header=True), I1._replace(message_class="class0"),
+                        I1._replace(letter1=0x65), Reading(language="hebrew", letter2=0x6E)):
+            for service in (BROADCAST, USSD):
+                self.refuses(8, 0, wikuay.write_message, service, reading, [HAN] * 300, room=0)
+            self.refuses(8, 0, wikuay.count_pages, reading, [A])
+            self.refuses(8, 0, wikuay.build_page, 1, 2, reading, [A], 0)
+            self.refuses(8, 0, wikuay.write_pages, 1, 2, reading, [A], room=0)
+
+    def test_data_coding_alone_looks_past_letters(self):
+        for reading, octet in ((HEADER, 0x90), (UCS2_HEADER, 0x9B), (EIGHT_HEADER, 0x95), (I1, 0xD0)):
+            self.assertEqual(wikuay.write_coding(USSD, reading._replace(letter1=0x65, letter2=0xFF)), {"coding": octet})
 
 
 if __name__ == "__main__":

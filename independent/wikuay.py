@@ -1,10 +1,10 @@
-"""A second implementation of Wikuay, the base and W1 and W2 of document 02, written from documents 01 and 02 and the
-settled readings of them, without sight of the Rattle code.
+"""A second implementation of Wikuay, the base and W1 to W3 of document 02, written from documents 01 and 02, clause 5
+of source document 003 and the settled readings of them, without sight of the Rattle code.
 
-It follows document 01 section by section, then W1 and W2, and does everything in the plainest way. The fourteen calls
-at the end are what the cases run. Each answers with a dictionary; one with a longer result stores it in a buffer that
-the caller lends, a list. A block of 88 octets is a list that is handed over by value. A call that refuses raises
-Refused, and has then stored nothing.
+It follows document 01 section by section, with W3's data coding table in the place of document 01's, then W1 and W2,
+and does everything in the plainest way. The fourteen calls at the end are what the cases run. Each answers with a
+dictionary; one with a longer result stores it in a buffer that the caller lends, a list. A block of 88 octets is a list
+that is handed over by value. A call that refuses raises Refused, and has then stored nothing.
 """
 
 from functools import lru_cache
@@ -35,10 +35,11 @@ EXACT = (BROADCAST, OLD)  # services whose octets are exactly that many
 # ---------------------------------------------------------------------------------------------------------------------
 # Reading the data coding octet
 
-SEVEN, EIGHT, UCS2, WAP = "7bit", "8bit", "ucs2", "wap"
+SEVEN, EIGHT, UCS2, WAP, I1 = "7bit", "8bit", "ucs2", "wap", "i1"
 CLASSES = ("class0", "class1", "class2", "class3")
 LANGUAGES = ("german", "english", "italian", "french", "spanish", "dutch", "swedish", "danish", "portuguese", "finnish",
              "norwegian", "greek", "turkish", "hungarian", "polish", None)
+MORE_LANGUAGES = ("czech", "hebrew", "arabic", "russian", "icelandic")
 KINDS = ("voicemail", "fax", "mail", "other")
 
 
@@ -59,6 +60,7 @@ class Reading(NamedTuple):
     notice: Notice = None
     prefix: bool = False
     reserved: bool = False
+    header: bool = False  # the user data header of clause 5's group 1001, and not the header of a block
     letter1: int = 0  # the language letters in front of the text, each 0 where it is absent
     letter2: int = 0
 
@@ -100,8 +102,15 @@ def read_sms_coding(octet):
     return Reading(alphabet=EIGHT if bit(octet, 2) else SEVEN, message_class=CLASSES[octet & 3])
 
 
+def header_coding(octet):
+    """1001 of a broadcast page or USSD: bits 3..2 alphabet, bits 1..0 the class, and a user data header in front."""
+    if bit(octet, 3) and bit(octet, 2):
+        return RESERVED
+    return Reading(alphabet=(SEVEN, EIGHT, UCS2)[(octet >> 2) & 3], message_class=CLASSES[octet & 3], header=True)
+
+
 def read_broadcast_coding(octet):
-    """The data coding octet of a broadcast page, and of USSD."""
+    """The data coding octet of a broadcast page, and of USSD: clause 5 of source document 003."""
     group = octet >> 4
     if group == 0b0000:
         return Reading(language=LANGUAGES[octet & 15])
@@ -109,14 +118,18 @@ def read_broadcast_coding(octet):
         return Reading(prefix=True)
     if octet == 0b00010001:
         return Reading(alphabet=UCS2, prefix=True)
-    if octet == 0b00100000:
-        return Reading(language="czech")
+    if group == 0b0010 and octet & 15 <= 4:
+        return Reading(language=MORE_LANGUAGES[octet & 15])
     if group <= 0b0011:
         return RESERVED
     if group <= 0b0111:
         return general_coding(octet)
-    if group <= 0b1101:
+    if group == 0b1001:
+        return header_coding(octet)
+    if group <= 0b1100:
         return RESERVED
+    if group == 0b1101:
+        return Reading(alphabet=I1)
     if group == 0b1110:
         return Reading(alphabet=WAP)
     if bit(octet, 3):
@@ -163,9 +176,9 @@ def text_of(reading):
     """Which text the reading holds: 7-bit or UCS2."""
     if reading.compressed:
         raise Refused(1)
-    if reading.alphabet in (EIGHT, WAP):
+    if reading.alphabet in (EIGHT, WAP, I1):
         raise Refused(2)
-    if reading.prefix:
+    if reading.prefix or reading.header:
         raise Refused(3)
     return reading.alphabet
 
@@ -528,8 +541,8 @@ def septets_to_text(septets, out):
 
 
 def read_message(service, coding, count, octets, out):
-    """1, 2, 3, 4, 11, 7: 3 is not a broadcast's, and 11 is no other's. The old page's own 2 stands in the place of 2: its
-    coding holds no other refusal."""
+    """1, 2, 3, 4, 11, 7: a broadcast's 3 is the header's alone, and 11 is no other service's. The old page's own 2 stands
+    in the place of 2: its coding holds no other refusal."""
     reading = reading_of(service, coding)
     alphabet = message_text(service, reading)
     check_octets(service, alphabet, octets, count)
@@ -546,7 +559,7 @@ def read_message(service, coding, count, octets, out):
 
 
 def write_message(service, reading, text, out):
-    """8, 1, 2, 3 (11 on a broadcast), 6, 5, 7."""
+    """8, 1, 2, 3 (11 for the prefix mark on a broadcast), 6, 5, 7."""
     coding = message_octet(service, reading)
     alphabet = message_text(service, reading)
     if is_lettered(service, reading):

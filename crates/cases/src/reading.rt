@@ -9,7 +9,7 @@ use names::ReadingNumbers;
 use printed::put;
 
 // How many words there are.
-const WORDS: usize = 39;
+const WORDS: usize = 45;
 
 pub(crate) fn plain() -> ReadingNumbers {
     ReadingNumbers {
@@ -20,6 +20,7 @@ pub(crate) fn plain() -> ReadingNumbers {
         deletion: 0,
         prefix: 0,
         reserved: 0,
+        header: 0,
         notice: 0,
         first: 0,
         second: 0,
@@ -31,19 +32,20 @@ fn says(reading: ReadingNumbers, word: usize) -> bool {
     let notice = reading.notice as usize;
     let told = 16 <= notice;
     match word {
-        0..=2 => reading.alphabet as usize == word + 1,
-        3 => reading.compressed == 1,
-        4..=9 => reading.class as usize == word - 3,
-        10..=24 => reading.language as usize == word - 10,
-        25 => reading.language == 16,
-        26 => reading.deletion == 1,
-        27..=28 => notice / 16 == word - 26,
-        29..=30 => told && notice / 8 % 2 == 30 - word,
-        31..=34 => told && notice % 4 == word - 31,
-        35 => reading.prefix == 1,
-        36 => reading.reserved == 1,
-        37 => reading.first != 0,
-        _ => reading.second != 0,
+        0..=3 => reading.alphabet as usize == word + 1,
+        4 => reading.compressed == 1,
+        5..=10 => reading.class as usize == word - 4,
+        11..=25 => reading.language as usize == word - 11,
+        26..=30 => reading.language as usize == word - 10,
+        31 => reading.deletion == 1,
+        32..=33 => notice / 16 == word - 31,
+        34..=35 => told && notice / 8 % 2 == 35 - word,
+        36..=39 => told && notice % 4 == word - 36,
+        40 => reading.prefix == 1,
+        41 => reading.reserved == 1,
+        42 => reading.first != 0,
+        43 => reading.second != 0,
+        _ => reading.header == 1,
     }
 }
 
@@ -53,20 +55,21 @@ fn with(reading: ReadingNumbers, word: usize, octet: u8) -> ReadingNumbers {
     let notice = reading.notice % 1024;
     let n = word % 64;
     match n {
-        0..=2 => next.alphabet = (n + 1) as u8,
-        3 => next.compressed = 1,
-        4..=9 => next.class = (n - 3) as u8,
-        10..=24 => next.language = (n - 10) as u8,
-        25 => next.language = 16,
-        26 => next.deletion = 1,
-        27 => next.notice = notice + 16,
-        28 => next.notice = notice + 32,
-        29 => next.notice = notice + 8,
-        31..=34 => next.notice = notice + (n - 31) as u16,
-        35 => next.prefix = 1,
-        36 => next.reserved = 1,
-        37 => next.first = octet,
-        38 => next.second = octet,
+        0..=3 => next.alphabet = (n + 1) as u8,
+        4 => next.compressed = 1,
+        5..=10 => next.class = (n - 4) as u8,
+        11..=25 => next.language = (n - 11) as u8,
+        26..=30 => next.language = (n - 10) as u8,
+        31 => next.deletion = 1,
+        32 => next.notice = notice + 16,
+        33 => next.notice = notice + 32,
+        34 => next.notice = notice + 8,
+        36..=39 => next.notice = notice + (n - 36) as u16,
+        40 => next.prefix = 1,
+        41 => next.reserved = 1,
+        42 => next.first = octet,
+        43 => next.second = octet,
+        44 => next.header = 1,
         _ => next.compressed = reading.compressed,
     }
     next
@@ -75,7 +78,7 @@ fn with(reading: ReadingNumbers, word: usize, octet: u8) -> ReadingNumbers {
 // The words of all fields, without the octet of a language letter.
 fn word_of(text: &[u8], from: usize, to: usize) -> usize {
     place_of(
-        b"8bit|ucs2|wap|compressed|class0|class1|class2|class3|user1|user2|german|english|italian|french|spanish|dutch|swedish|danish|portuguese|finnish|norwegian|greek|turkish|hungarian|polish|czech|deletion|discard|store|active|inactive|voicemail|fax|mail|other|prefix|reserved|letter1|letter2|",
+        b"8bit|ucs2|wap|i1|compressed|class0|class1|class2|class3|user1|user2|german|english|italian|french|spanish|dutch|swedish|danish|portuguese|finnish|norwegian|greek|turkish|hungarian|polish|czech|hebrew|arabic|russian|icelandic|deletion|discard|store|active|inactive|voicemail|fax|mail|other|prefix|reserved|letter1|letter2|header|",
         part(text, from, to),
     )
 }
@@ -87,11 +90,11 @@ fn with_word(reading: ReadingNumbers, word: &[u8]) -> ReadingNumbers {
     with(reading, word_of(word, 0, colon), octet)
 }
 
-// The reading that the words say, in any order. No reading has more than twelve.
+// The reading that the words say, in any order. No reading has more than thirteen.
 pub(crate) fn reading_of(text: &[u8]) -> ReadingNumbers {
     let mut reading = plain();
     let mut at: usize = 0;
-    for _ in 0..12usize {
+    for _ in 0..13usize {
         let end = end_at(text, at, b'+');
         reading = with_word(reading, part(text, at, end));
         at = more(end);
@@ -115,7 +118,7 @@ fn put_word(
         out,
         end,
         nth(
-            b"8bit|ucs2|wap|compressed|class0|class1|class2|class3|user1|user2|german|english|italian|french|spanish|dutch|swedish|danish|portuguese|finnish|norwegian|greek|turkish|hungarian|polish|czech|deletion|discard|store|active|inactive|voicemail|fax|mail|other|prefix|reserved|letter1:|letter2:|",
+            b"8bit|ucs2|wap|i1|compressed|class0|class1|class2|class3|user1|user2|german|english|italian|french|spanish|dutch|swedish|danish|portuguese|finnish|norwegian|greek|turkish|hungarian|polish|czech|hebrew|arabic|russian|icelandic|deletion|discard|store|active|inactive|voicemail|fax|mail|other|prefix|reserved|letter1:|letter2:|header|",
             word,
         ),
     );
@@ -127,8 +130,8 @@ fn put_letter(out: &mut [u8], at: usize, reading: ReadingNumbers, word: usize) -
     let first = [reading.first];
     let second = [reading.second];
     match word {
-        37 => printed::put_octets(out, at, &first),
-        38 => printed::put_octets(out, at, &second),
+        42 => printed::put_octets(out, at, &first),
+        43 => printed::put_octets(out, at, &second),
         _ => at,
     }
 }

@@ -7,10 +7,10 @@ use Rattle.cases.proofs.reading.put_reading.Statement.{statement}
 use Rattle.cases.proofs.reading.put_reading.Tie as tie
 
 abbrev Inv-loop : tie.InvT-loop
-Inv-loop out₀ at reading end₀ word₀ t6 out end word = (length out ≡ length out₀) × (word ≤ 39)
+Inv-loop out₀ at reading end₀ word₀ t6 out end word = (length out ≡ length out₀) × (word ≤ 45)
 
 abbrev μ-loop : tie.MeasureT-loop
-μ-loop out₀ at reading end₀ word₀ t6 out end word = 39 - word
+μ-loop out₀ at reading end₀ word₀ t6 out end word = 45 - word
 
 loop-holds : tie.Need-loop-holds Inv-loop μ-loop
 loop-holds c = search needs

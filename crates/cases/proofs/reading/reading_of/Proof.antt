@@ -5,10 +5,10 @@ use Rattle.cases.proofs.reading.reading_of.Statement.{statement}
 use Rattle.cases.proofs.reading.reading_of.Tie as tie
 
 abbrev Inv-loop : tie.InvT-loop
-Inv-loop text reading₀ at₀ counter₀ reading at counter = counter ≤ 12
+Inv-loop text reading₀ at₀ counter₀ reading at counter = counter ≤ 13
 
 abbrev μ-loop : tie.MeasureT-loop
-μ-loop text reading₀ at₀ counter₀ reading at counter = 12 - counter
+μ-loop text reading₀ at₀ counter₀ reading at counter = 13 - counter
 
 plain-requires : tie.Need-plain-requires Inv-loop μ-loop
 plain-requires c κs = search needs
