@@ -80,6 +80,7 @@ wikuay coding sms F5
   notice none
   prefix no
   reserved no
+  header no
   text refused 2 at 0: the coding holds no text
   written 15
 ",

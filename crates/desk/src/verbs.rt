@@ -34,7 +34,7 @@ pub(crate) fn refused(
         b"{refused # at #: |`refused`<#/`position`<#/`meaning`<`}{|
 the text is compressed|
 the coding holds no text|
-the coding has the prefix mark|
+the coding has the prefix mark or the header mark|
 the octets do not fit the service or the count|
 the text is over the service's size|
 a unit is not in the alphabet|
@@ -340,15 +340,16 @@ fn fields(out: &mut [u8], at: usize, layout: usize, answer: ReadAnswer) -> usize
         kind,
         reading.prefix as usize,
         reading.reserved as usize,
+        reading.header as usize,
     ];
     tell::say(
         out,
         at,
         layout,
-        b"`alphabet`<`{7-bit|8-bit data|UCS2|WAP}`/`compressed`<`{no|yes}`/`class`<`{none|0|1|2|3|user-defined 1|user-defined 2}`/`language`<`
-{German|English|Italian|French|Spanish|Dutch|Swedish|Danish|Portuguese|Finnish|Norwegian|Greek|Turkish|Hungarian|Polish|unspecified|Czech}`/
+        b"`alphabet`<`{7-bit|8-bit data|UCS2|WAP|I1}`/`compressed`<`{no|yes}`/`class`<`{none|0|1|2|3|user-defined 1|user-defined 2}`/`language`<`
+{German|English|Italian|French|Spanish|Dutch|Swedish|Danish|Portuguese|Finnish|Norwegian|Greek|Turkish|Hungarian|Polish|unspecified|Czech|Hebrew|Arabic|Russian|Icelandic}`/
 `deletion`<`{no|yes}`/`notice`<`{none|discard|store}{||, not active|, active|, not active|, active}{|, voicemail|, fax|, electronic mail|, other}`/
-`prefix`<`{no|yes}`/`reserved`<`{no|yes}`/",
+`prefix`<`{no|yes}`/`reserved`<`{no|yes}`/`header`<`{no|yes}`/",
         &numbers,
     )
 }
