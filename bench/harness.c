@@ -499,8 +499,8 @@ static int repeat(unsigned long times) {
 
 static int same_reading(wikuay_reading a, wikuay_reading b) {
   return a.alphabet == b.alphabet && a.compressed == b.compressed && a.message_class == b.message_class && a.language == b.language &&
-         a.deletion == b.deletion && a.prefix == b.prefix && a.reserved == b.reserved && a.notice == b.notice &&
-         a.first_letter == b.first_letter && a.second_letter == b.second_letter;
+         a.deletion == b.deletion && a.prefix == b.prefix && a.reserved == b.reserved && a.header == b.header &&
+         a.notice == b.notice && a.first_letter == b.first_letter && a.second_letter == b.second_letter;
 }
 
 static int codings(void) {

@@ -64,7 +64,8 @@ static wikuay_read_answer read_refused(uint32_t refusal) {
 
 /* The octet of a short message, by the bits of its groups. */
 static int short_coding(wikuay_reading r) {
-  if (r.language != WIKUAY_NO_LANGUAGE || r.prefix || r.message_class > WIKUAY_CLASS_3 || r.alphabet == WIKUAY_WAP) return -1;
+  if (r.language != WIKUAY_NO_LANGUAGE || r.prefix || r.header || r.message_class > WIKUAY_CLASS_3 || r.alphabet > WIKUAY_UCS2)
+    return -1;
   if (r.notice == WIKUAY_NO_NOTICE)
     return r.deletion << 6 | r.compressed << 5 | (r.message_class ? 0x10 | (r.message_class - 1) : 0) | r.alphabet << 2;
   if (r.deletion || r.compressed || r.message_class) return -1;
@@ -79,14 +80,18 @@ static int page_coding(wikuay_reading r) {
   if (r.deletion || r.notice != WIKUAY_NO_NOTICE) return -1;
   int nothing_else = !r.compressed && r.message_class == WIKUAY_NO_CLASS;
   if (r.language != WIKUAY_NO_LANGUAGE) {
-    if (!nothing_else || r.prefix || r.alphabet != WIKUAY_7BIT) return -1;
-    return r.language == WIKUAY_CZECH ? 0x20 : r.language;
+    if (!nothing_else || r.prefix || r.header || r.alphabet != WIKUAY_7BIT) return -1;
+    return r.language >= WIKUAY_CZECH ? 0x20 | (r.language - WIKUAY_CZECH) : r.language;
   }
   if (r.prefix) {
-    if (!nothing_else) return -1;
+    if (!nothing_else || r.header) return -1;
     return r.alphabet == WIKUAY_7BIT ? 0x10 : r.alphabet == WIKUAY_UCS2 ? 0x11 : -1;
   }
-  if (r.alphabet == WIKUAY_WAP) return nothing_else ? 0xE0 : -1;
+  if (r.alphabet >= WIKUAY_WAP) return !nothing_else || r.header ? -1 : r.alphabet == WIKUAY_WAP ? 0xE0 : 0xD0;
+  if (r.header) {
+    if (r.compressed || r.message_class < WIKUAY_CLASS_0 || r.message_class > WIKUAY_CLASS_3) return -1;
+    return 0x90 | r.alphabet << 2 | (r.message_class - 1);
+  }
   if (r.message_class >= WIKUAY_USER_DEFINED_1) {
     if (r.compressed || r.alphabet == WIKUAY_UCS2) return -1;
     return 0xF0 | r.alphabet << 2 | (r.message_class - WIKUAY_CLASS_3);
@@ -97,7 +102,8 @@ static int page_coding(wikuay_reading r) {
 
 int plain_write_coding(uint32_t service, wikuay_reading r) {
   if (service > 2) return -1;
-  if (r.alphabet > 3 || r.compressed > 1 || r.message_class > 6 || r.language > 16 || r.deletion > 1 || r.prefix > 1 || r.reserved > 1)
+  if (r.alphabet > 4 || r.compressed > 1 || r.message_class > 6 || r.language > 20 || r.deletion > 1 || r.prefix > 1 || r.reserved > 1 ||
+      r.header > 1)
     return -1;
   /* A notice is a multiple of 16, an active one 8 more, and its kind. */
   if (r.notice != WIKUAY_NO_NOTICE && (r.notice < 16 || r.notice >= 48 || (r.notice & 4) != 0)) return -1;
@@ -151,12 +157,18 @@ wikuay_reading plain_read_coding(uint32_t service, uint8_t coding) {
     if (low == 1) r.alphabet = WIKUAY_UCS2;
     return r;
   }
-  if (coding == 0x20) {
-    r.language = WIKUAY_CZECH;
+  if (group == 2 && low < 5) {
+    r.language = WIKUAY_CZECH + low;
     return r;
   }
-  if (group == 14) {
-    r.alphabet = WIKUAY_WAP;
+  if (group == 9 && low < 12) {
+    r.header = 1;
+    r.alphabet = low >> 2;
+    r.message_class = (low & 3) + 1;
+    return r;
+  }
+  if (group == 13 || group == 14) {
+    r.alphabet = group == 14 ? WIKUAY_WAP : WIKUAY_I1;
     return r;
   }
   return reserved_reading();
@@ -164,7 +176,7 @@ wikuay_reading plain_read_coding(uint32_t service, uint8_t coding) {
 
 /* The refusal of a reading that holds no text, or 0. */
 static uint32_t no_text(wikuay_reading r) {
-  return r.compressed ? 1 : r.alphabet & 1 ? 2 : r.prefix ? 3 : 0;
+  return r.compressed ? 1 : r.alphabet != WIKUAY_7BIT && r.alphabet != WIKUAY_UCS2 ? 2 : r.prefix || r.header ? 3 : 0;
 }
 
 static unsigned find(uint16_t unit) {

@@ -24,7 +24,7 @@ static void judge(int right, const char *what, unsigned long number) {
 static int same(wikuay_reading a, wikuay_reading b) {
   return a.alphabet == b.alphabet && a.compressed == b.compressed && a.message_class == b.message_class &&
          a.language == b.language && a.deletion == b.deletion && a.prefix == b.prefix && a.reserved == b.reserved &&
-         a.notice == b.notice && a.first_letter == b.first_letter && a.second_letter == b.second_letter;
+         a.header == b.header && a.notice == b.notice && a.first_letter == b.first_letter && a.second_letter == b.second_letter;
 }
 
 /* The answer is this refusal and reports nothing. */
@@ -306,19 +306,21 @@ int main(void) {
   no_service(UINT32_MAX);
   for (number = 0; number < 256; number++) {
     r = wikuay_plain(), r.alphabet = (uint8_t)number;
-    field(r, number <= WIKUAY_WAP, "alphabet", number);
+    field(r, number <= WIKUAY_I1, "alphabet", number);
     r = wikuay_plain(), r.compressed = (uint8_t)number;
     field(r, number <= 1, "compressed", number);
     r = wikuay_plain(), r.message_class = (uint8_t)number;
     field(r, number <= WIKUAY_USER_DEFINED_2, "message_class", number);
     r = wikuay_plain(), r.language = (uint8_t)number;
-    field(r, number <= WIKUAY_CZECH, "language", number);
+    field(r, number <= WIKUAY_ICELANDIC, "language", number);
     r = wikuay_plain(), r.deletion = (uint8_t)number;
     field(r, number <= 1, "deletion", number);
     r = wikuay_plain(), r.prefix = (uint8_t)number;
     field(r, number <= 1, "prefix", number);
     r = wikuay_plain(), r.reserved = (uint8_t)number;
     field(r, number <= 1, "reserved", number);
+    r = wikuay_plain(), r.header = (uint8_t)number;
+    field(r, number <= 1, "header", number);
   }
   for (number = 0; number < 65536; number++) {
     r = wikuay_plain(), r.notice = (uint16_t)number;

@@ -103,7 +103,8 @@ static const name services[] = {{"sms", WIKUAY_SHORT_MESSAGE},
                                 {NULL, 0}};
 static const name held[] = {
     {"7bit", WIKUAY_HOLDS_7BIT}, {"ucs2", WIKUAY_HOLDS_UCS2}, {"none", WIKUAY_HOLDS_NOTHING}, {NULL, 0}};
-static const name alphabets[] = {{"8bit", WIKUAY_8BIT}, {"ucs2", WIKUAY_UCS2}, {"wap", WIKUAY_WAP}, {NULL, 0}};
+static const name alphabets[] = {
+    {"8bit", WIKUAY_8BIT}, {"ucs2", WIKUAY_UCS2}, {"wap", WIKUAY_WAP}, {"i1", WIKUAY_I1}, {NULL, 0}};
 static const name classes[] = {{"class0", WIKUAY_CLASS_0},       {"class1", WIKUAY_CLASS_1},
                                {"class2", WIKUAY_CLASS_2},       {"class3", WIKUAY_CLASS_3},
                                {"user1", WIKUAY_USER_DEFINED_1}, {"user2", WIKUAY_USER_DEFINED_2},
@@ -116,6 +117,8 @@ static const name languages[] = {{"german", WIKUAY_GERMAN},         {"english", 
                                  {"norwegian", WIKUAY_NORWEGIAN},   {"greek", WIKUAY_GREEK},
                                  {"turkish", WIKUAY_TURKISH},       {"hungarian", WIKUAY_HUNGARIAN},
                                  {"polish", WIKUAY_POLISH},         {"czech", WIKUAY_CZECH},
+                                 {"hebrew", WIKUAY_HEBREW},         {"arabic", WIKUAY_ARABIC},
+                                 {"russian", WIKUAY_RUSSIAN},       {"icelandic", WIKUAY_ICELANDIC},
                                  {NULL, 0}};
 static const name handlings[] = {{"discard", WIKUAY_DISCARD}, {"store", WIKUAY_STORE}, {NULL, 0}};
 static const name senses[] = {{"active", WIKUAY_ACTIVE}, {"inactive", 0}, {NULL, 0}};
@@ -127,8 +130,9 @@ static const name prefix[] = {{"prefix", 1}, {NULL, 0}};
 static const name reserved[] = {{"reserved", 1}, {NULL, 0}};
 
 /* The fields of a reading in the order of their words, and the number of each without a word. Behind them stand the
-   words of the language letters, which have an octet. */
+   words of the language letters, which have an octet, and last the word of the header mark. */
 enum { ALPHABET, COMPRESSED, CLASS, LANGUAGE, DELETION, HANDLING, SENSE, KIND, PREFIX, RESERVED, FIELDS, LETTERS = 2 };
+enum { HEADER = FIELDS + LETTERS };
 static const name *const fields[FIELDS] = {alphabets, compressed, classes, languages, deletion,
                                            handlings, senses,     kinds,   prefix,    reserved};
 
@@ -172,7 +176,9 @@ static int parse_reading(const char *text, wikuay_reading *reading) {
     while (FIELDS <= at && at < FIELDS + LETTERS &&
            !(letters[at - FIELDS] = letter_in(letter_words[at - FIELDS], text, length)))
       at++;
-    if (at++ == FIELDS + LETTERS) return 0;
+    if (at == HEADER && strncmp(text, "header", length) == 0 && length == strlen("header")) reading->header = 1;
+    else if (at >= HEADER) return 0;
+    at++;
     text += length;
     if (*text == 0) break;
     text++;
@@ -219,14 +225,18 @@ static void print_reading(const wikuay_reading *r) {
       printf("%s%s%02X", between, letter_words[at], (unsigned)letters[at]);
       between = "+";
     }
+  if (r->header) {
+    printf("%sheader", between);
+    between = "+";
+  }
   if (!*between) printf("plain");
 }
 
 static int same_reading(const wikuay_reading *a, const wikuay_reading *b) {
   return a->alphabet == b->alphabet && a->compressed == b->compressed && a->message_class == b->message_class &&
          a->language == b->language && a->deletion == b->deletion && a->prefix == b->prefix &&
-         a->reserved == b->reserved && a->notice == b->notice && a->first_letter == b->first_letter &&
-         a->second_letter == b->second_letter;
+         a->reserved == b->reserved && a->header == b->header && a->notice == b->notice &&
+         a->first_letter == b->first_letter && a->second_letter == b->second_letter;
 }
 
 static int parse_number(const char *text, uint32_t most, uint32_t *number) {
