@@ -47,7 +47,7 @@ extern "C" {
 /* Refusals. The numbers are permanent. */
 #define WIKUAY_REFUSED_COMPRESSED 1     /* compressed text */
 #define WIKUAY_REFUSED_NO_TEXT 2        /* the coding holds no text: 8-bit, WAP, I1, an old page's alphabet not 0 */
-#define WIKUAY_REFUSED_PREFIXED 3       /* the coding has the prefix mark, but on one broadcast page, or the header mark */
+#define WIKUAY_REFUSED_PREFIXED 3       /* the coding has the prefix mark, but on one page, or the header mark */
 #define WIKUAY_REFUSED_WRONG_LENGTH 4   /* octets do not fit the service or count, or are not whole blocks or units */
 #define WIKUAY_REFUSED_TOO_LONG 5       /* text over the size of the service or behind letters, or over 15 pages */
 #define WIKUAY_REFUSED_UNLISTED 6       /* a unit is not in the alphabet; position: the first such unit */
@@ -323,8 +323,8 @@ wikuay_answer wikuay_septets_to_text(const uint8_t *septets, size_t septets_len,
  * count is the septets of a 7-bit short message, the octets of a UCS2 one, and 0 for the other services.
  * The reading of a broadcast page with the prefix mark has its language letters. Behind them, and behind the CR that
  * 7-bit text has there, CRs that close the text are dropped.
- * Refuses: 8 unknown service, 1, 2, 3 the prefix mark in USSD, 4, 11 on a broadcast page with the prefix mark a letter
- * that is not a to z or no CR behind them, 7. Stores units.
+ * Refuses: 8 unknown service, 1, 2, 3 the header mark or in USSD the prefix mark, 4, 11 on a broadcast page with the
+ * prefix mark a letter that is not a to z or no CR behind them, 7. Stores units.
  */
 wikuay_read_answer wikuay_read_message(uint32_t service, uint8_t coding, size_t count, const uint8_t *octets,
                                        size_t octets_len, uint16_t *out, size_t out_len);
@@ -333,8 +333,8 @@ wikuay_read_answer wikuay_read_message(uint32_t service, uint8_t coding, size_t 
  * Writes a message: the octets of a text under a reading, with the length count and the coding octet. Clauses 4, 5, 6.
  * A broadcast page with the prefix mark begins with the language letters of the reading.
  * Refuses: 8 unknown service, a field that names nothing, a reading that cannot be written, a letter without the prefix
- * mark; 1, 2, 3 the prefix mark in USSD, 11 on a broadcast page with the prefix mark a letter that is 0 or not a to z,
- * 6, 5, 7. Stores octets.
+ * mark; 1, 2, 3 the header mark or in USSD the prefix mark, 11 on a broadcast page with the prefix mark a letter that
+ * is 0 or not a to z, 6, 5, 7. Stores octets.
  */
 wikuay_answer wikuay_write_message(uint32_t service, wikuay_reading reading, const uint16_t *text, size_t text_len,
                                    uint8_t *out, size_t out_len);
@@ -347,7 +347,8 @@ wikuay_block_header wikuay_read_header(wikuay_block block);
 
 /*
  * How many pages a text takes under a reading: as few as hold it, and one for the empty text. Clauses 5 and 6.
- * No message of pages has language letters: the prefix mark is refused 3, here and below, where one page is enough too.
+ * No message of pages has language letters: the prefix mark is refused 3, here and below, where one page is enough
+ * too, and so is the header mark.
  * Refuses: 8 a field that names nothing, a reading that cannot be written on a broadcast page, a letter without the
  * prefix mark; 1, 2, 3, 6, 5.
  */
