@@ -39,9 +39,13 @@ headerTest o = says (readPage o .header) (headed o)
 abbrev i1Test : ℕ → Bool
 i1Test o = says (eqb (alphabetNo (readPage o .alphabet)) 4) (isI1 o)
 
--- an octet of either kind is uncompressed and has no prefix mark; from 94 to 97 it is data, and so is I1
+-- it is uncompressed and has no prefix mark; from 94 to 97 it is data, and so is I1
+abbrev kindTest : ℕ → Bool
+kindTest o = both (not (readPage o .compressed)) (both (not (readPage o .prefix)) (says (isData (readPage o .alphabet)) (cond (headed o) (eqb (o / 4) 0x25) true)))
+
+-- said of an octet of either kind
 abbrev holdsTest : ℕ → Bool
-holdsTest o = cond (headed o || isI1 o) (both (not (readPage o .compressed)) (both (not (readPage o .prefix)) (says (isData (readPage o .alphabet)) (cond (headed o) (eqb (o / 4) 0x25) true)))) true
+holdsTest o = cond (headed o || isI1 o) (kindTest o) true
 
 new-tests : T (everyBelow (λ (o : ℕ). both (headerTest o) (both (i1Test o) (holdsTest o))) 256)
 unfolding readPage generalReading lastReading headerReading classIn bitsOf gather bitOf
@@ -50,7 +54,7 @@ new-tests = tt
 same-flag : (a b : Bool) → T (says a b) → a ≡ b
 same-flag a b t = flag-injective a b (eqb→eq _ _ t)
 
-isnt : (b : Bool) → T (not b) → b ≡ false
+pub isnt : (b : Bool) → T (not b) → b ≡ false
 isnt true t = absurd t
 isnt false t = refl
 
@@ -82,7 +86,7 @@ module _ (o : ℕ) (h : o < 256) where
   -- what the third test says of an octet of either kind
   new-holds : (headed o || isI1 o) ≡ true → (readPage o .compressed ≡ false) × (readPage o .prefix ≡ false) × (isData (readPage o .alphabet) ≡ cond (headed o) (eqb (o / 4) 0x25) true)
   new-holds e =
-      let t : T (both (not (readPage o .compressed)) (both (not (readPage o .prefix)) (says (isData (readPage o .alphabet)) (cond (headed o) (eqb (o / 4) 0x25) true)))) = subst (λ (b : Bool). T (cond b (both (not (readPage o .compressed)) (both (not (readPage o .prefix)) (says (isData (readPage o .alphabet)) (cond (headed o) (eqb (o / 4) 0x25) true)))) true)) e (both-right (i1Test o) _ (both-right (headerTest o) _ test)) in
+      let t : T (kindTest o) = subst (λ (b : Bool). T (cond b (kindTest o) true)) e (both-right (i1Test o) _ (both-right (headerTest o) _ test)) in
       let u = both-right (not (readPage o .compressed)) _ t in
       (isnt _ (both-left (not (readPage o .compressed)) _ t), isnt _ (both-left (not (readPage o .prefix)) _ u), same-flag _ _ (both-right (not (readPage o .prefix)) _ u))
 

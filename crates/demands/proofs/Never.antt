@@ -35,6 +35,7 @@ use Rattle.demands.specs.MessageRead.{textLengthRules, lengthRules, read
 use Rattle.demands.specs.MessageWritten.{textSizeRules, sizeRules, writeRules, writeAnswers}
 use Rattle.demands.proofs.Accepting.{read-verdict, write-verdict}
 use Rattle.coding.proofs.Prefixed.{read-given}
+use Rattle.coding.proofs.Headed.{isnt}
 
 -- neither a mark nor an alphabet behind UCS2, whose number is 2
 abbrev shortTest : ℕ → Bool
@@ -43,10 +44,6 @@ shortTest o = both (not (readShort o .prefix)) (both (not (readShort o .header))
 short-tests : T (everyBelow shortTest 256)
 unfolding readShort bitsOf gather bitOf generalReading noticeReading lastReading classIn discardIn storeIn
 short-tests = tt
-
-isnt : (b : Bool) → T (not b) → b ≡ false
-isnt true t = absurd t
-isnt false t = refl
 
 pub short-reads : (o : ℕ) → o < 256 → (readShort o .prefix ≡ false) × (readShort o .header ≡ false) × (ltb 2 (alphabetNo (readShort o .alphabet)) ≡ false)
 short-reads o h =
