@@ -9,7 +9,7 @@ implementation's own. The exit status is 0 if each is noticed. Nothing on disk i
 import io
 import sys
 
-FILES = ("scope", "standard", "published", "limits", "damaged", "pages", "letters", "release9")
+FILES = ("scope", "standard", "published", "limits", "damaged", "pages", "letters", "release9", "meter")
 
 # What is wrong then, the text as it stands, and the text in its place; some have two such pairs. The text as it stands
 # occurs once.
@@ -370,6 +370,128 @@ BREAKS = (
      'return {"holds": text_of(reading._replace(header=False))}'),
     ("a refusal for the header mark has the position 1", "    if reading.prefix or reading.header:\n        raise Refused(3)\n",
      "    if reading.prefix or reading.header:\n        raise Refused(3, int(reading.header))\n"),
+    # The room left.
+    ("an extension letter counts as one septet", "EXTENSION.values():\n        return 2", "EXTENSION.values():\n        return 1"),
+    ("only the euro sign counts as two septets", "EXTENSION.values():\n        return 2",
+     "EXTENSION.values():\n        return 2 if unit == 0x20AC else 1"),
+    ("form feed is no extension letter", "if unit in EXTENSION.values():", "if unit in EXTENSION.values() and unit != 0x000C:"),
+    ("a letter outside ASCII counts as two septets", "MAIN.values():\n        return 1",
+     "MAIN.values():\n        return 1 if unit < 128 else 2"),
+    ("CR counts nothing", "MAIN.values():\n        return 1", "MAIN.values():\n        return 1 if unit != CR else 0"),
+    ("an unlisted unit counts as one septet", "    raise Refused(6)\n", "    return 1\n"),
+    ("an unlisted unit counts as two septets", "    raise Refused(6)\n", "    return 2\n"),
+    ("an unlisted unit counts as nothing", "    raise Refused(6)\n", "    return 0\n"),
+    ("the escape is a unit of its own", "if unit in MAIN.values():", "if unit in MAIN.values() or unit == ESCAPE:"),
+    ("00E7 is listed as 00C7 is", "if unit in MAIN.values():", "if unit in MAIN.values() or unit == 0x00E7:"),
+    ("a unit is taken for its code", "if unit in MAIN.values():", "if unit in MAIN:"),
+    ("a unit is cut to its low octet", "if unit in MAIN.values():", "if unit & 255 in MAIN.values():"),
+    ("an unlisted unit has the position 1", "    raise Refused(6)\n", "    raise Refused(6, 1)\n"),
+    ("an unlisted unit is refused 5", "    raise Refused(6)\n", "    raise Refused(5)\n"),
+    ("the old page's meter knows no extension", "        self.change(width_of(unit))\n",
+     "        if self.service == OLD and width_of(unit) == 2:\n            raise Refused(6)\n"
+     "        self.change(width_of(unit))\n"),
+    ("the old page's keys are refused 8", "    try:\n        key(meter, *unit)\n",
+     "    try:\n        if meter.service == OLD:\n            raise Refused(8)\n        key(meter, *unit)\n"),
+    ("65,536 septets are accepted", "septets > MOST_USED:", "septets > MOST_USED + 1:"),
+    ("65,535 septets are refused", "MOST_USED = 65535", "MOST_USED = 65534"),
+    ("nothing is added at 65,534 septets", "        self.change(width_of(unit))\n",
+     "        if self.used >= MOST_USED - 1:\n            self.change(3)\n        self.change(width_of(unit))\n"),
+    ("the sum goes round at 65,536", "        if self.used + septets < 0 or self.used + septets > MOST_USED:\n"
+     "            raise Refused(5)\n        self.used += septets\n", "        self.used = (self.used + septets) % 65536\n"),
+    ("the sum stays at 65,535 and is not refused", "        if self.used + septets < 0 or",
+     "        septets = min(septets, MOST_USED - self.used)\n        if self.used + septets < 0 or"),
+    ("two septets taken back from one go to zero", "        if self.used + septets < 0 or",
+     "        septets = max(septets, -self.used) if self.used else septets\n        if self.used + septets < 0 or"),
+    ("taking back from nothing is let through", "        if self.used + septets < 0 or",
+     "        septets = max(septets, -self.used) if self.used == 0 else septets\n        if self.used + septets < 0 or"),
+    ("two septets taken back from one go below zero", "if self.used + septets < 0 or", "if self.used == 0 and septets < 0 or"),
+    ("one septet is not taken back from one", "if self.used + septets < 0 or", "if septets < 0 and self.used < 2 or"),
+    ("nothing used is not reached again", "if self.used + septets < 0 or", "if septets < 0 and self.used + septets < 1 or"),
+    ("a text over the service's size is refused 5", "septets > MOST_USED:", "septets > SEPTETS[self.service]:"),
+    ("a text that is over takes no further unit", "        self.change(width_of(unit))\n",
+     "        check_size(self.used, SEPTETS[self.service])\n        self.change(width_of(unit))\n"),
+    ("a text that is over gives no unit back", "        self.change(-width_of(unit))\n",
+     "        check_size(self.used, SEPTETS[self.service])\n        self.change(-width_of(unit))\n"),
+    ("5 comes before 6 where a unit is added", "        self.change(width_of(unit))\n",
+     "        check_size(self.used + 1, MOST_USED)\n        self.change(width_of(unit))\n"),
+    ("5 comes before 6 where two septets would pass the largest sum", "        self.change(width_of(unit))\n",
+     "        if unit not in MAIN.values():\n            check_size(self.used + 2, MOST_USED)\n"
+     "        self.change(width_of(unit))\n"),
+    ("5 comes before 6 where a unit is taken back", "        self.change(-width_of(unit))\n",
+     "        if self.used == 0:\n            raise Refused(5)\n        self.change(-width_of(unit))\n"),
+    ("5 comes before 6 where two septets would pass zero", "        self.change(-width_of(unit))\n",
+     "        if unit not in MAIN.values() and self.used < 2:\n            raise Refused(5)\n"
+     "        self.change(-width_of(unit))\n"),
+    ("a sum that leaves its bounds has a position", "MOST_USED:\n            raise Refused(5)\n",
+     "MOST_USED:\n            raise Refused(5, self.used)\n"),
+    ("a sum that leaves its bounds is refused 6", "MOST_USED:\n            raise Refused(5)\n",
+     "MOST_USED:\n            raise Refused(6)\n"),
+    ("taking back counts one septet for every unit", "self.change(-width_of(unit))", "self.change(-min(width_of(unit), 1))"),
+    ("taking back counts two septets for every unit", "self.change(-width_of(unit))", "self.change(-max(width_of(unit), 2))"),
+    ("taking back adds", "self.change(-width_of(unit))", "self.change(width_of(unit))", "        self.change(width_of(unit))\n\n"
+     "    def take_back", "        self.change(0 + width_of(unit))\n\n    def take_back"),
+    ("taking back looks at no unit but the euro sign", "self.change(-width_of(unit))",
+     "self.change(-2 if unit == 0x20AC else -1)"),
+    ("taking back an unlisted unit changes nothing and is let through", "        self.change(-width_of(unit))\n",
+     "        if unit in CODES:\n            self.change(-width_of(unit))\n"),
+    ("the number is never below zero", "return SEPTETS[self.service] - self.used",
+     "return max(0, SEPTETS[self.service] - self.used)"),
+    ("the number has no sign", "return SEPTETS[self.service] - self.used", "return abs(SEPTETS[self.service] - self.used)"),
+    ("the number has the other sign", "return SEPTETS[self.service] - self.used", "return self.used - SEPTETS[self.service]"),
+    ("the number is one of 32 bits without a sign", "return SEPTETS[self.service] - self.used",
+     "return (SEPTETS[self.service] - self.used) % 4294967296"),
+    ("the number is one of 16 bits without a sign", "return SEPTETS[self.service] - self.used",
+     "return (SEPTETS[self.service] - self.used) % 65536"),
+    ("the number is one of 16 bits with a sign", "return SEPTETS[self.service] - self.used",
+     "return (SEPTETS[self.service] - self.used + 32768) % 65536 - 32768"),
+    ("the number is one of 8 bits with a sign", "return SEPTETS[self.service] - self.used",
+     "return (SEPTETS[self.service] - self.used + 128) % 256 - 128"),
+    ("the size is a short message's", "return SEPTETS[self.service] - self.used", "return SEPTETS[SMS] - self.used"),
+    ("the size of USSD is a short message's", "return SEPTETS[self.service] - self.used",
+     "return SEPTETS[SMS if self.service == USSD else self.service] - self.used"),
+    ("the size of an old page is a short message's", "return SEPTETS[self.service] - self.used",
+     "return SEPTETS[SMS if self.service == OLD else self.service] - self.used"),
+    ("the size of a broadcast is what stands behind letters", "return SEPTETS[self.service] - self.used",
+     "return (LETTERED_SEPTETS if self.service == BROADCAST else SEPTETS[self.service]) - self.used"),
+    ("the size is in octets", "return SEPTETS[self.service] - self.used", "return OCTETS[self.service] - self.used"),
+    ("the size is in units", "return SEPTETS[self.service] - self.used", "return UNITS.get(self.service, 41) - self.used"),
+    ("a clear keeps the sum", "    def clear(self):\n        self.used = 0\n", "    def clear(self):\n        pass\n"),
+    ("a clear leaves one septet", "    def clear(self):\n        self.used = 0\n", "    def clear(self):\n        self.used = 1\n"),
+    ("a clear of nothing is refused 5", "    def clear(self):\n",
+     "    def clear(self):\n        if self.used == 0:\n            raise Refused(5)\n"),
+    ("a clear makes a short message's meter", "    def clear(self):\n", "    def clear(self):\n        self.service = SMS\n"),
+    ("a new meter begins at one", "return shown(Meter(service))", "return shown(Meter(service, 1))"),
+    ("showing a text that is over is refused 5", "    return shown(Meter(service, used))\n",
+     "    return shown(Meter(service, used), 5 if used > SEPTETS[service] else 0)\n"),
+    ("showing a record clears it", "    return shown(Meter(service, used))\n",
+     '    return {**shown(Meter(service, used)), "used": 0}\n'),
+    ("a key refused 5 still changes the sum", "        if self.used + septets < 0 or self.used + septets > MOST_USED:\n"
+     "            raise Refused(5)\n        self.used += septets\n",
+     "        self.used += septets\n        if self.used < 0 or self.used > MOST_USED:\n            raise Refused(5)\n"),
+    ("a key refused 5 goes as far as the limit", "MOST_USED:\n            raise Refused(5)\n",
+     "MOST_USED:\n            self.used = 0 if septets < 0 else MOST_USED\n            raise Refused(5)\n"),
+    ("a key refused 6 still changes the sum", "        self.change(width_of(unit))\n",
+     "        if unit not in CODES:\n            self.used += 1\n        self.change(width_of(unit))\n"),
+    ("a key refused 6 takes a septet back", "        self.change(-width_of(unit))\n",
+     "        if unit not in CODES:\n            self.used -= 1\n        self.change(-width_of(unit))\n"),
+    ("a refused key clears the record", "        return shown(meter, refused.number, refused.position)\n",
+     "        meter.clear()\n        return shown(meter, refused.number, refused.position)\n"),
+    ("a refused key shows 0", "        return shown(meter, refused.number, refused.position)\n",
+     '        return {**shown(meter, refused.number, refused.position), "left": 0}\n'),
+    ("a refused key shows what an empty text leaves", "        return shown(meter, refused.number, refused.position)\n",
+     '        return {**shown(meter, refused.number, refused.position), "left": SEPTETS[meter.service]}\n'),
+    ("a refused key answers with 0 used", "        return shown(meter, refused.number, refused.position)\n",
+     '        return {**shown(meter, refused.number, refused.position), "used": 0}\n'),
+    ("a refused key answers with a short message's meter", "        return shown(meter, refused.number, refused.position)\n",
+     '        return {**shown(meter, refused.number, refused.position), "service": SMS}\n'),
+    ("a key shows the record of before", "    try:\n        key(meter, *unit)\n", "    before = meter.left()\n    try:\n"
+     "        key(meter, *unit)\n", "        return shown(meter, refused.number, refused.position)\n    return shown(meter)\n",
+     "        return shown(meter, refused.number, refused.position)\n"
+     '    return {**shown(meter), "left": before}\n'),
+    ("a key answers with the sum of before", "    try:\n        key(meter, *unit)\n", "    before = meter.used\n    try:\n"
+     "        key(meter, *unit)\n", "        return shown(meter, refused.number, refused.position)\n    return shown(meter)\n",
+     "        return shown(meter, refused.number, refused.position)\n"
+     '    return {**shown(meter), "used": before}\n'),
 )
 
 
@@ -399,7 +521,8 @@ def differing(cases, text):
         try:
             return good(call, inputs)
         except (ArithmeticError, LookupError, TypeError, ValueError):
-            return {**cases.REFUSED, "total": 0, "number": 0, "refusal": 99, "position": 0}, None
+            return {**cases.REFUSED, "total": 0, "number": 0, "refusal": 99, "position": 0, "left": 0, "service": "sms",
+                    "used": 0}, None
 
     cases.run_call = guarded
     return cases.run(cases.input_lines(io.BytesIO(text)), lambda line: None)

@@ -118,10 +118,19 @@ def parse_pair(value):
     return parse_number(value, LARGEST_PAIR)
 
 
-def parse_octet(value):
-    if not re.fullmatch("[0-9A-F]{2}", value):
+def parse_signed(value):
+    """A number, or - and one that is not 0: zero has no sign, so that it has one spelling."""
+    if value == "-0":
         raise NotACase
-    return int(value, 16)
+    return -parse_number(value[1:]) if value.startswith("-") else parse_number(value)
+
+
+def parse_element(digits):
+    def parse(value):
+        if not re.fullmatch("[0-9A-F]{%d}" % digits, value):
+            raise NotACase
+        return int(value, 16)
+    return parse
 
 
 def parse_elements(digits):
@@ -140,12 +149,12 @@ def parse_block(value):
     return list(bytes.fromhex(value))
 
 
+def print_element(digits):
+    return lambda element: "%0*X" % (digits, element)
+
+
 def print_elements(digits):
-    return lambda elements: "".join("%0*X" % (digits, element) for element in elements) or "-"
-
-
-def print_octet(octet):
-    return "%02X" % octet
+    return lambda elements: "".join(map(print_element(digits), elements)) or "-"
 
 
 # What each kind of value is parsed and printed by.
@@ -155,7 +164,9 @@ KINDS = {
     "number": (parse_number, str),
     "room": (parse_room, str),
     "pair": (parse_pair, str),
-    "octet": (parse_octet, print_octet),
+    "signed": (parse_signed, str),
+    "octet": (parse_element(2), print_element(2)),
+    "unit": (parse_element(4), print_element(4)),
     "octets": (parse_elements(2), print_elements(2)),
     "block": (parse_block, print_elements(2)),
     "text": (parse_elements(4), print_elements(4)),
@@ -168,7 +179,10 @@ KINDS = {
 
 # A key's kind of value where it is not the key itself. The kind of `out` is given with each call.
 KIND_OF_KEY = {"coding": "octet", "septets": "octets", "refusal": "number", "position": "number", "written": "number",
-               "count": "number", "total": "number", "pages": "number", "sequence": "pair", "identifier": "pair"}
+               "count": "number", "total": "number", "pages": "number", "sequence": "pair", "identifier": "pair",
+               "used": "pair", "left": "signed"}
+
+METER_ANSWER = "refusal position left service used"
 
 # Name, function, keys of the inputs, keys of the answer, kind of `out`.
 CALLS = {name: (function, inputs.split(), answer.split(), out) for name, function, inputs, answer, out in (
@@ -190,9 +204,14 @@ CALLS = {name: (function, inputs.split(), answer.split(), out) for name, functio
      "refusal position written pages out", "octets"),
     ("join-pages", wikuay.join_pages, "octets room",
      "refusal position written reading sequence identifier pages out", "text"),
+    ("new-meter", wikuay.new_meter, "service", METER_ANSWER, None),
+    ("room-left", wikuay.room_left, "service used", METER_ANSWER, None),
+    ("unit-added", wikuay.unit_added, "service used unit", METER_ANSWER, None),
+    ("unit-taken-back", wikuay.unit_taken_back, "service used unit", METER_ANSWER, None),
+    ("meter-cleared", wikuay.meter_cleared, "service used", METER_ANSWER, None),
 )}
 
-# What a refusal holds beside its number and position.
+# What a refusal holds beside its number and position, but that of a meter, which answers for itself.
 REFUSED = {"written": 0, "count": 0, "coding": 0, "reading": wikuay.PLAIN, "holds": "none", "sequence": 0, "identifier": 0,
            "pages": 0, "block": [0] * wikuay.BLOCK, "out": []}
 

@@ -3,8 +3,9 @@
 Lengths keep to both sides of the limits, and inputs are for the most part nearly right: a valid input with one thing
 changed reaches further into a call than noise does.
 
-The base, several pages, language letters and W3's codings have a stream each, so that a stream's cases do not change
-when another grows. The first three draw by the coding table of before W3: their inputs stay, and answers follow W3.
+The base, several pages, language letters, W3's codings and the meter have a stream each, so that a stream's cases do
+not change when another grows. The first three draw by the coding table of before W3: their inputs stay, and answers
+follow W3.
 """
 
 import itertools
@@ -598,6 +599,41 @@ def random_release9_case(rng, label):
 
 
 # ---------------------------------------------------------------------------------------------------------------------
+# The room left
+
+METER_WEIGHTS = {"new-meter": 1, "room-left": 3, "unit-added": 10, "unit-taken-back": 10, "meter-cleared": 2}
+
+
+def random_used(rng, service):
+    """Most often a sum near zero, near the size or near the largest."""
+    kind = rng.random()
+    if kind < 0.3:
+        return rng.randrange(0, 4)
+    if kind < 0.55:
+        return wikuay.SEPTETS[service] + rng.randrange(-3, 4)
+    if kind < 0.85:
+        return wikuay.MOST_USED - rng.randrange(0, 4)
+    return rng.randrange(0, wikuay.MOST_USED + 1)
+
+
+def random_key_unit(rng):
+    """Most often a listed unit, and often one of the extension."""
+    kind = rng.random()
+    if kind < 0.4:
+        return rng.choice(EXTENDED)
+    if kind < 0.8:
+        return rng.choice(LISTED)
+    return rng.choice(UNLISTED) if kind < 0.9 else rng.randrange(0x10000)
+
+
+def random_meter_case(rng, label):
+    call = rng.choices(tuple(METER_WEIGHTS), tuple(METER_WEIGHTS.values()))[0]
+    service = rng.choice(wikuay.SERVICES)
+    given = {"service": service, "used": random_used(rng, service), "unit": random_key_unit(rng)}
+    return case_of(rng, label, call, {key: given[key] for key in CALLS[call][1]}, earlier=False)
+
+
+# ---------------------------------------------------------------------------------------------------------------------
 # The streams
 
 def base_cases(seed):
@@ -624,9 +660,16 @@ def release9_cases(seed):
         yield random_release9_case(rng, "random-release9-%d-%d" % (seed, n))
 
 
+def meter_cases(seed):
+    rng = random.Random("meter %d" % seed)
+    for n in itertools.count(1):
+        yield random_meter_case(rng, "random-meter-%d-%d" % (seed, n))
+
+
 def random_cases(number, seed):
-    """All streams, mixed: each fourth case is one of several pages, of language letters or of Release 9, in turn."""
+    """All streams, mixed: each fourth case is one of several pages, of language letters, of Release 9 or of a meter, in
+    turn."""
     base = base_cases(seed)
-    requests = itertools.cycle((page_cases(seed), letters_cases(seed), release9_cases(seed)))
+    requests = itertools.cycle((page_cases(seed), letters_cases(seed), release9_cases(seed), meter_cases(seed)))
     for n in range(1, number + 1):
         yield next(base if n % 4 else next(requests))

@@ -32,8 +32,9 @@ def accepted(label, call, inputs, **answer):
     print(print_case(label, call, inputs, {"refusal": 0, "position": 0, **answer}))
 
 
-def refused(label, call, inputs, number, position=0):
-    print(print_case(label, call, inputs, {**REFUSED, "refusal": number, "position": position}))
+def refused(label, call, inputs, number, position=0, **answer):
+    """Prints a case that the call refuses. Only what its answer holds of its own is stated."""
+    print(print_case(label, call, inputs, {**REFUSED, "refusal": number, "position": position, **answer}))
 
 
 def reading(words):

@@ -112,6 +112,25 @@ class Format(unittest.TestCase):
         for value in ("65536", "00", "01", "-", "", "4294967296"):
             self.assertRaises(cases.NotACase, cases.parse_pair, value)
 
+    def test_signed_numbers_and_units(self):
+        parse, spell = cases.KINDS["signed"]
+        for value in ("0", "1", "-1", "7", "-65375", "182", "4294967295", "-4294967295"):
+            self.assertEqual(parse(value), int(value))
+            self.assertEqual(spell(int(value)), value)
+        for value in ("-0", "+0", "+7", "-07", "07", "--7", "- 7", "7-", "-", "", "-00", "4294967296", "-4294967296", "1.0"):
+            self.assertRaises(cases.NotACase, parse, value)
+        parse, spell = cases.KINDS["unit"]
+        for value, unit in (("0000", 0), ("20AC", 0x20AC), ("FFFF", 0xFFFF)):
+            self.assertEqual(parse(value), unit)
+            self.assertEqual(spell(unit), value)
+        for value in ("-", "", "041", "41", "00041", "00410042", "20ac", "20AG", "+041", "0x41"):
+            self.assertRaises(cases.NotACase, parse, value)
+
+    def test_a_refused_key_shows_the_record(self):
+        for line in ("t unit-added service=sms used=65535 unit=4E2D : refusal=6 position=0 left=-65375 service=sms used=65535",
+                     "t unit-taken-back service=old used=1 unit=20AC : refusal=5 position=0 left=92 service=old used=1"):
+            self.assertEqual(run(line.encode()), "1 cases, 0 differ\n")
+
     def test_header_has_no_refusal(self):
         line = "t read-header block=0001FF000F21%s : sequence=1 identifier=65280 coding=0F total=1 number=2" % ("00" * 82)
         self.assertEqual(run(line.encode()), "1 cases, 0 differ\n")
@@ -125,11 +144,12 @@ class Format(unittest.TestCase):
 
 class Random(unittest.TestCase):
     def test_each_fourth_case_is_one_of_a_request(self):
-        labels = [line.split(" ", 1)[0] for line in random_cases.random_cases(16, 7)]
+        labels = [line.split(" ", 1)[0] for line in random_cases.random_cases(20, 7)]
         self.assertEqual(labels, ["random-7-1", "random-7-2", "random-7-3", "random-pages-7-1",
                                   "random-7-4", "random-7-5", "random-7-6", "random-letters-7-1",
                                   "random-7-7", "random-7-8", "random-7-9", "random-release9-7-1",
-                                  "random-7-10", "random-7-11", "random-7-12", "random-pages-7-2"])
+                                  "random-7-10", "random-7-11", "random-7-12", "random-meter-7-1",
+                                  "random-7-13", "random-7-14", "random-7-15", "random-pages-7-2"])
 
     def test_the_streams_of_before_draw_no_word_of_release_9(self):
         for stream in (random_cases.base_cases, random_cases.page_cases, random_cases.letters_cases):
@@ -139,8 +159,18 @@ class Random(unittest.TestCase):
                                  or reading.language in wikuay.MORE_LANGUAGES[1:], line)
 
     def test_all_calls_come(self):
-        came = {line.split(" ")[1] for line in random_cases.random_cases(400, 1)}
+        came = {line.split(" ")[1] for line in random_cases.random_cases(600, 1)}
         self.assertEqual(came, set(cases.CALLS))
+
+
+    def test_units_and_sums_of_the_meter(self):
+        """Every width and every refusal comes, and the sums are near each limit."""
+        keys = [cases.parse_case(line)[2:] for line in itertools.islice(random_cases.meter_cases(7), 2000)]
+        for number in (0, 5, 6):
+            self.assertGreater(sum(answer["refusal"] == number for _, answer in keys), 50)
+        for size in {182, 160, 93}:
+            self.assertGreater(sum(abs(answer["left"]) <= 3 for inputs, answer in keys
+                                   if wikuay.SEPTETS[inputs["service"]] == size), 50)
 
 
 class Vectors(unittest.TestCase):
@@ -149,6 +179,16 @@ class Vectors(unittest.TestCase):
     def test_labels_are_unique(self):
         labels = collections.Counter(line.split(" ", 1)[0] for path in self.FILES for line in lines_of(path))
         self.assertEqual([label for label, times in labels.items() if times > 1], [])
+
+    def test_each_key_of_a_run_begins_where_the_one_before_ended(self):
+        left_behind = {}
+        for line in lines_of("vectors/meter.txt"):
+            label, call, inputs, answer = cases.parse_case(line)
+            name, _, step = label.rpartition("-")
+            if label.startswith("meter-run-") and int(step) > 1:
+                self.assertEqual(inputs["used"], left_behind[name], line)
+                self.assertNotEqual(call, "new-meter")
+            left_behind[name] = answer["used"]
 
     def test_every_line_is_in_its_one_spelling(self):
         for path in self.FILES:

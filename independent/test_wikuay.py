@@ -1,14 +1,15 @@
-"""Unit tests of the second implementation against document 01 and W1 to W3 of document 02.
+"""Unit tests of the second implementation against document 01 and W1 to W4 of document 02.
 
     python3 -m unittest discover independent
 
 Every expected value is worked out by hand from these documents or stands in them. None is a printout of the program.
 """
 
+import random
 import unittest
 
 import wikuay
-from wikuay import BROADCAST, CR, OLD, SMS, USSD, Notice, Reading, Refused
+from wikuay import BROADCAST, CR, OLD, SMS, USSD, Meter, Notice, Reading, Refused
 
 PLAIN = Reading()
 RESERVED = Reading(reserved=True)
@@ -771,6 +772,101 @@ class Release9(Case):
     def test_data_coding_alone_looks_past_letters(self):
         for reading, octet in ((HEADER, 0x90), (UCS2_HEADER, 0x9B), (EIGHT_HEADER, 0x95), (I1, 0xD0)):
             self.assertEqual(wikuay.write_coding(USSD, reading._replace(letter1=0x65, letter2=0xFF)), {"coding": octet})
+
+
+class RoomLeft(Case):
+    SIZES = {SMS: 160, BROADCAST: 93, USSD: 182, OLD: 93}
+
+    def shows(self, answer, service, used, refusal=0):
+        """The whole answer of a call that leaves this record."""
+        self.assertEqual(answer, {"refusal": refusal, "position": 0, "left": self.SIZES[service] - used,
+                                  "service": service, "used": used})
+
+    def test_records(self):
+        for service, size in self.SIZES.items():
+            self.shows(wikuay.new_meter(service), service, 0)
+            self.assertEqual(wikuay.new_meter(service)["left"], size)
+            self.assertEqual(wikuay.room_left(service, size)["left"], 0)
+            self.assertEqual(wikuay.room_left(service, size + 1)["left"], -1)
+            for used in (0, 1, size - 1, size, size + 1, 65534, 65535):
+                self.shows(wikuay.room_left(service, used), service, used)
+                self.shows(wikuay.meter_cleared(service, used), service, 0)
+        self.assertEqual(wikuay.room_left(SMS, 65535)["left"], -65375)
+
+    def test_widths(self):
+        for service in self.SIZES:
+            for unit in units("A@\n\rà€^{}\\[~]|\f"):
+                septets = 2 if unit in units("€^{}\\[~]|\f") else 1
+                self.shows(wikuay.unit_added(service, 90, unit), service, 90 + septets)
+                self.shows(wikuay.unit_taken_back(service, 90, unit), service, 90 - septets)
+
+    def test_limits(self):
+        for service in self.SIZES:
+            for call, used, unit, after in (
+                    (wikuay.unit_added, 65534, A, 65535), (wikuay.unit_added, 65533, EURO, 65535),
+                    (wikuay.unit_taken_back, 1, A, 0), (wikuay.unit_taken_back, 2, EURO, 0),
+                    (wikuay.unit_taken_back, 3, EURO, 1), (wikuay.unit_taken_back, 65535, EURO, 65533)):
+                self.shows(call(service, used, unit), service, after)
+            for call, used, unit in ((wikuay.unit_added, 65535, A), (wikuay.unit_added, 65535, EURO),
+                                     (wikuay.unit_added, 65534, EURO), (wikuay.unit_taken_back, 0, A),
+                                     (wikuay.unit_taken_back, 0, EURO), (wikuay.unit_taken_back, 1, EURO)):
+                self.shows(call(service, used, unit), service, used, 5)
+
+    def test_unlisted_units(self):
+        for unit in (0x0000, 0x001B, 0x0060, 0x00A0, 0x00E7, HAN, 0xD800, 0xFFFF):
+            for used in (0, 1, 2, 160, 65534, 65535):
+                self.shows(wikuay.unit_added(SMS, used, unit), SMS, used, 6)
+                self.shows(wikuay.unit_taken_back(OLD, used, unit), OLD, used, 6)
+
+    def test_a_refused_key_changes_nothing(self):
+        meter = Meter(USSD, 65534)
+        self.refuses(5, 0, meter.add, EURO)
+        self.refuses(6, 0, meter.add, HAN)
+        self.refuses(6, 0, meter.take_back, HAN)
+        self.assertEqual((meter.service, meter.used, meter.left()), (USSD, 65534, -65352))
+        meter.clear()
+        self.refuses(5, 0, meter.take_back, A)
+        self.assertEqual((meter.service, meter.used, meter.left()), (USSD, 0, 182))
+
+    def test_counted_afresh(self):
+        self.assertEqual(wikuay.left_afresh(SMS, []), 160)
+        self.assertEqual(wikuay.left_afresh(BROADCAST, units("A€[")), 88)
+        self.assertEqual(wikuay.left_afresh(OLD, [EURO] * 47), -1)
+        self.refuses(6, 2, wikuay.left_afresh, USSD, [A, EURO, HAN])
+
+    def random_keys(self, service, kept, number, seed):
+        """Keys at random over one record. The text of the accepted ones is kept beside it, and counted afresh."""
+        rng = random.Random(seed)
+        meter = Meter(service, len(wikuay.septets_of(kept)))
+        for _ in range(number):
+            kind = rng.random()
+            unit = rng.choice((A, CR, 0x40, 0xE0, EURO, EURO, 0x5B, 0x0C, HAN, 0x1B))
+            refusal = 0
+            try:
+                if kind < 0.6:
+                    meter.add(unit)
+                    kept.append(unit)
+                elif kind < 0.98:
+                    unit = kept[-1] if kept and unit != HAN else unit
+                    meter.take_back(unit)
+                    kept.pop()
+                else:
+                    meter.clear()
+                    kept.clear()
+            except Refused as refused:
+                refusal = refused.number
+            self.assertEqual(refusal == 6, kind < 0.98 and unit in (HAN, 0x1B))
+            self.assertEqual(meter.service, service)
+            self.assertEqual(meter.left(), wikuay.left_afresh(service, kept))
+            yield refusal
+
+    def test_runs_of_keys_show_what_the_text_leaves(self):
+        came = set()
+        for seed, service in enumerate(self.SIZES):
+            came.update(self.random_keys(service, [], 1000, seed))
+            came.update(self.random_keys(service, [A] * (self.SIZES[service] - 5), 200, seed))
+            came.update(self.random_keys(service, [EURO] * 32766 + [A], 25, seed))
+        self.assertEqual(came, {0, 5, 6})
 
 
 if __name__ == "__main__":

@@ -1,10 +1,11 @@
-"""A second implementation of Wikuay, the base and W1 to W3 of document 02, written from documents 01 and 02, clause 5
+"""A second implementation of Wikuay, the base and W1 to W4 of document 02, written from documents 01 and 02, clause 5
 of source document 003 and the settled readings of them, without sight of the Rattle code.
 
-It follows document 01 section by section, with W3's data coding table in the place of document 01's, then W1 and W2,
-and does everything in the plainest way. The fourteen calls at the end are what the cases run. Each answers with a
+It follows document 01 section by section, with W3's data coding table in the place of document 01's, then W1, W2 and W4,
+and does everything in the plainest way. The nineteen calls at the end are what the cases run. Each answers with a
 dictionary; one with a longer result stores it in a buffer that the caller lends, a list. A block of 88 octets is a list
-that is handed over by value. A call that refuses raises Refused, and has then stored nothing.
+that is handed over by value. A call that refuses raises Refused, and has then stored nothing; only a meter answers in a
+refusal too, since its record is shown all the same.
 """
 
 from functools import lru_cache
@@ -463,6 +464,67 @@ def lettered_text(alphabet, octets):
 
 
 # ---------------------------------------------------------------------------------------------------------------------
+# The room left (document 02, W4)
+
+MOST_USED = 65535
+
+
+def width_of(unit):
+    """The septets of one unit. Refusal 6, at position 0: a key has no other unit."""
+    if unit in MAIN.values():
+        return 1
+    if unit in EXTENSION.values():
+        return 2
+    raise Refused(6)
+
+
+class Meter:
+    """The one record that is kept while a clerk types: a service and the septets used. Each key changes it."""
+
+    def __init__(self, service, used=0):
+        self.service = service
+        self.used = used
+
+    def left(self):
+        """The number that is shown, below zero where the text is over."""
+        return SEPTETS[self.service] - self.used
+
+    def change(self, septets):
+        """Refusal 5: a sum below zero or above 65,535. The service's size is no bound."""
+        if self.used + septets < 0 or self.used + septets > MOST_USED:
+            raise Refused(5)
+        self.used += septets
+
+    def add(self, unit):
+        self.change(width_of(unit))
+
+    def take_back(self, unit):
+        """The named unit goes. The text is not kept, so nothing tells whether it ended so."""
+        self.change(-width_of(unit))
+
+    def clear(self):
+        self.used = 0
+
+
+def shown(meter, refusal=0, position=0):
+    return {"refusal": refusal, "position": position, "left": meter.left(), "service": meter.service, "used": meter.used}
+
+
+def after_key(meter, key, *unit):
+    """What is shown behind a key. A refused one changes nothing."""
+    try:
+        key(meter, *unit)
+    except Refused as refused:
+        return shown(meter, refused.number, refused.position)
+    return shown(meter)
+
+
+def left_afresh(service, text):
+    """The number that a meter shows for a text, without a meter: the text is counted from its first unit. Refusal 6."""
+    return SEPTETS[service] - len(septets_of(text))
+
+
+# ---------------------------------------------------------------------------------------------------------------------
 # Refusals
 
 def check_octets(service, alphabet, octets, count):
@@ -623,3 +685,28 @@ def join_pages(octets, out):
     written = store(joined_text(alphabet, blocks), out)
     return {"written": written, "reading": reading, "sequence": first["sequence"], "identifier": first["identifier"],
             "pages": first["total"]}
+
+
+def new_meter(service):
+    """Refuses nothing."""
+    return shown(Meter(service))
+
+
+def room_left(service, used):
+    """Refuses nothing."""
+    return shown(Meter(service, used))
+
+
+def unit_added(service, used, unit):
+    """6, 5."""
+    return after_key(Meter(service, used), Meter.add, unit)
+
+
+def unit_taken_back(service, used, unit):
+    """6, 5."""
+    return after_key(Meter(service, used), Meter.take_back, unit)
+
+
+def meter_cleared(service, used):
+    """Refuses nothing."""
+    return after_key(Meter(service, used), Meter.clear)
