@@ -180,7 +180,7 @@ KINDS = {
 # A key's kind of value where it is not the key itself. The kind of `out` is given with each call.
 KIND_OF_KEY = {"coding": "octet", "septets": "octets", "refusal": "number", "position": "number", "written": "number",
                "count": "number", "total": "number", "pages": "number", "sequence": "pair", "identifier": "pair",
-               "used": "pair", "left": "signed"}
+               "used": "number", "left": "signed"}
 
 METER_ANSWER = "refusal position left service used"
 

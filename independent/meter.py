@@ -119,12 +119,12 @@ TAKEN_AT_ZERO = ((0, None, None), (1, 0, None), (2, 1, 0), (3, 2, 1))
 ADDED_AT_ZERO = ((0, 1, 2), (1, 2, 3))
 
 
-def limit_rows(call, rows, ones, twos):
+def limit_rows(call, rows, ones, twos, part="limit"):
     for service in SIZE:
         for used, *behind in rows:
             for letters, after in zip((ones, twos), behind):
                 for unit in units(letters):
-                    case("limit", call, service, used, unit, after, 5 if after is None else 0)
+                    case(part, call, service, used, unit, after, 5 if after is None else 0)
 
 
 def limits():
@@ -225,6 +225,40 @@ def runs():
     run("hesitant", "old", [key for letter in "A€{b[]c|\rD" for key in typed(letter) + back(letter) + typed(letter)])
 
 
+# ---------------------------------------------------------------------------------------------------------------------
+# Records that no keys make, up to the largest that a record can hold. They stand last, so that the lines in front keep
+# their places.
+
+FAR_BEYOND = (65539, 70000, 131072, 2147483647, 2147483648, 4294967294, 4294967295)
+BEYOND = (65536, 65537, 65538, *FAR_BEYOND)
+
+# As the rows of the limits: nothing is added, and taking back goes where it leaves 65,535 or less.
+ADDED_BEYOND = [(used, None, None) for used in BEYOND]
+TAKEN_BEYOND = [(65536, 65535, 65534), (65537, None, 65535), (65538, None, None),
+                *((used, None, None) for used in FAR_BEYOND)]
+
+# An unlisted unit has no septets, so both keys leave a sum above 65,535: each deserves 5 too.
+UNLISTED_BEYOND = (0x001B, 0x0060, 0x00E7, 0x4E2D, 0xD800, 0xFFFF, 0x0000)
+
+
+def beyond():
+    print("\n# What a record shows that no keys make, also where the number is zero in 16 bits and where it leaves 32.")
+    for service, size in SIZE.items():
+        for used in sorted((*BEYOND, size + 65536, size + 2147483648, size + 2147483649)):
+            case("beyond", "room-left", service, used)
+    print("\n# Such a record is cleared as any other.")
+    for service in SIZE:
+        for used in BEYOND:
+            case("beyond", "meter-cleared", service, used, after=0)
+    print("\n# Units added to such a record, and taken back from it: 5, but where 65,535 or less is left.")
+    limit_rows("unit-added", ADDED_BEYOND, "A", "€", "beyond")
+    limit_rows("unit-taken-back", TAKEN_BEYOND, "A", "€", "beyond")
+    print("\n# Pairs of refusals at such a record: an unlisted unit is 6 first.")
+    for at, (service, used) in enumerate((service, used) for service in SIZE for used in BEYOND):
+        for call in KEYS:
+            case("pair-6-5", call, service, used, UNLISTED_BEYOND[at % len(UNLISTED_BEYOND)], number=6)
+
+
 def main():
     print(HEADER, end="")
     records()
@@ -234,6 +268,7 @@ def main():
     limits()
     pairs()
     runs()
+    beyond()
 
 
 if __name__ == "__main__":

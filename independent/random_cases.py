@@ -12,7 +12,7 @@ import itertools
 import random
 
 import wikuay
-from cases import CALLS, LARGEST_ROOM, print_case, run_call
+from cases import CALLS, LARGEST_NUMBER, LARGEST_ROOM, print_case, run_call
 from wikuay import Notice, Reading
 
 # The lengths around every limit, in septets, units and octets.
@@ -605,15 +605,24 @@ METER_WEIGHTS = {"new-meter": 1, "room-left": 3, "unit-added": 10, "unit-taken-b
 
 
 def random_used(rng, service):
-    """Most often a sum near zero, near the size or near the largest."""
+    """Most often a sum near zero, near the size or near the largest; now and then one that no keys make."""
     kind = rng.random()
-    if kind < 0.3:
+    if kind < 0.25:
         return rng.randrange(0, 4)
-    if kind < 0.55:
+    if kind < 0.45:
         return wikuay.SEPTETS[service] + rng.randrange(-3, 4)
-    if kind < 0.85:
+    if kind < 0.7:
         return wikuay.MOST_USED - rng.randrange(0, 4)
-    return rng.randrange(0, wikuay.MOST_USED + 1)
+    if kind < 0.8:
+        return rng.randrange(0, wikuay.MOST_USED + 1)
+    if kind < 0.9:
+        return wikuay.MOST_USED + rng.randrange(1, 5)
+    if kind < 0.93:
+        return LARGEST_NUMBER - rng.randrange(0, 4)
+    if kind < 0.97:
+        # Its low 16 bits are a sum near zero or near the size: what cuts a record takes it for such a one.
+        return 65536 * rng.randrange(1, 65536) + rng.choice((0, wikuay.SEPTETS[service])) + rng.randrange(0, 4)
+    return rng.randrange(wikuay.MOST_USED + 1, LARGEST_NUMBER + 1)
 
 
 def random_key_unit(rng):

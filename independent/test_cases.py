@@ -128,7 +128,9 @@ class Format(unittest.TestCase):
 
     def test_a_refused_key_shows_the_record(self):
         for line in ("t unit-added service=sms used=65535 unit=4E2D : refusal=6 position=0 left=-65375 service=sms used=65535",
-                     "t unit-taken-back service=old used=1 unit=20AC : refusal=5 position=0 left=92 service=old used=1"):
+                     "t unit-taken-back service=old used=1 unit=20AC : refusal=5 position=0 left=92 service=old used=1",
+                     "t unit-taken-back service=sms used=4294967295 unit=0041 : "
+                     "refusal=5 position=0 left=-4294967135 service=sms used=4294967295"):
             self.assertEqual(run(line.encode()), "1 cases, 0 differ\n")
 
     def test_header_has_no_refusal(self):
@@ -171,6 +173,15 @@ class Random(unittest.TestCase):
         for size in {182, 160, 93}:
             self.assertGreater(sum(abs(answer["left"]) <= 3 for inputs, answer in keys
                                    if wikuay.SEPTETS[inputs["service"]] == size), 50)
+
+    def test_records_that_no_keys_make(self):
+        """They come with every refusal, just above the largest sum and up to the largest record."""
+        keys = [cases.parse_case(line)[1:] for line in itertools.islice(random_cases.meter_cases(7), 2000)]
+        beyond = [(call, inputs["used"], answer["refusal"]) for call, inputs, answer in keys if inputs.get("used", 0) > 65535]
+        self.assertEqual({call for call, _, _ in beyond}, set(random_cases.METER_WEIGHTS) - {"new-meter"})
+        self.assertEqual({refusal for call, _, refusal in beyond if call == "unit-taken-back"}, {0, 5, 6})
+        self.assertEqual({refusal for call, _, refusal in beyond if call == "unit-added"}, {5, 6})
+        self.assertLessEqual({*range(65536, 65540), *range(4294967292, 4294967296)}, {used for _, used, _ in beyond})
 
 
 class Vectors(unittest.TestCase):

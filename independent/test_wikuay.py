@@ -793,6 +793,24 @@ class RoomLeft(Case):
                 self.shows(wikuay.meter_cleared(service, used), service, 0)
         self.assertEqual(wikuay.room_left(SMS, 65535)["left"], -65375)
 
+    def test_records_that_no_keys_make(self):
+        for service in self.SIZES:
+            for used in (65536, 65537, 65538, 70000, 131072, 2147483647, 2147483648, 4294967294, 4294967295):
+                self.shows(wikuay.room_left(service, used), service, used)
+                self.shows(wikuay.meter_cleared(service, used), service, 0)
+                for unit in (A, EURO):
+                    self.shows(wikuay.unit_added(service, used, unit), service, used, 5)
+                for call in (wikuay.unit_added, wikuay.unit_taken_back):
+                    self.shows(call(service, used, HAN), service, used, 6)
+            for used, unit, after in ((65536, A, 65535), (65536, EURO, 65534), (65537, EURO, 65535)):
+                self.shows(wikuay.unit_taken_back(service, used, unit), service, after)
+            for used, unit in ((65537, A), (65538, A), (65538, EURO), (65539, EURO), (131072, A), (2147483648, EURO),
+                               (4294967295, A), (4294967295, EURO)):
+                self.shows(wikuay.unit_taken_back(service, used, unit), service, used, 5)
+        self.assertEqual(wikuay.room_left(SMS, 65536)["left"], -65376)
+        self.assertEqual(wikuay.room_left(SMS, 4294967295)["left"], -4294967135)
+        self.assertEqual(wikuay.room_left(USSD, 2147483648)["left"], -2147483466)
+
     def test_widths(self):
         for service in self.SIZES:
             for unit in units("A@\n\rà€^{}\\[~]|\f"):

@@ -479,7 +479,8 @@ def width_of(unit):
 
 
 class Meter:
-    """The one record that is kept while a clerk types: a service and the septets used. Each key changes it."""
+    """The one record that is kept while a clerk types: a service and the septets used. Each key changes it. It can come
+    with more septets than keys make."""
 
     def __init__(self, service, used=0):
         self.service = service
@@ -490,7 +491,8 @@ class Meter:
         return SEPTETS[self.service] - self.used
 
     def change(self, septets):
-        """Refusal 5: a sum below zero or above 65,535. The service's size is no bound."""
+        """Refusal 5: a sum below zero or above 65,535. The service's size is no bound, and the sum of before is none: what
+        takes a record from above down to 65,535 goes."""
         if self.used + septets < 0 or self.used + septets > MOST_USED:
             raise Refused(5)
         self.used += septets
