@@ -43,7 +43,7 @@ use Rattle.coding.proofs.Theorems.{settled, reads-all, write-read, write-comple
 use Rattle.lettered.specs.declared.LetteredRead.{LetteredRead}
 use Rattle.lettered.specs.declared.LetteredRead.the-variants as lettered
 use Rattle.lettered.specs.LetteredPage.{letteredOctets, letteredWrites, lettersIn, wrongLetters, letteredText, letteredReads}
-use Rattle.lettered.proofs.Rules.{gives, given-not}
+use Rattle.words.proofs.Rules.{gives, given-not}
 use Rattle.lettered.proofs.Theorems.{WritablePage, ReadablePage, lettered-length, write-accepts-iff, write-leaves, write-refuses-letters-iff, read-accepts-iff, read-refuses-letters-iff, lettered-written-read}
 use Rattle.lettered.proofs.Theorems as page
 use Rattle.demands.specs.declared.MessageRead.the-variants as read

@@ -36,7 +36,7 @@ use Rattle.stream.specs.declared.Packed.the-variants as packed
 use Rattle.stream.specs.Answers.{packedNumber, packedPosition, packedWritten, packedCount}
 use Rattle.stream.specs.SeptetCalls.{octetsOf, countOf, packRules, packAnswers, packLeaves, unpackRules, unpackAnswers, unpackLeaves, septetsOf as unpackedOf}
 use Rattle.stream.specs.UnitCalls.{ucs2OctetsOf, unitsOf, toOctetsRules, toOctetsAnswers, toOctetsLeaves, toUnitsRules, toUnitsAnswers, toUnitsLeaves}
-use Rattle.lettered.proofs.Rules.{filledTold}
+use Rattle.words.proofs.Rules.{filledTold}
 use Rattle.demands.specs.declared.MessageRead.the-variants as read
 use Rattle.demands.specs.declared.MessageWritten.the-variants as written
 use Rattle.demands.specs.MessageRead.{heldText, textLengthRules, textReads, textReadLeaves, readAnswers, readLeaves}

@@ -2,6 +2,5 @@ pub mod Texts
 pub mod Bits
 pub mod Pages
 pub mod Spare
-pub mod Rules
 pub mod Theorems
 pub mod Examples

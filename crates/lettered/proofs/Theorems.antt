@@ -36,6 +36,7 @@ use Rattle.words.specs.declared.Refusal.the-variants.{WrongLength, WrongLetters
 use Rattle.words.specs.declared.Filled.the-variants as filled
 use Rattle.words.specs.Judging.{when, Verdict, refused, accepted, verdict, settle}
 use Rattle.words.proofs.Judging.{settle-given}
+use Rattle.words.proofs.Rules.{gives, given-iff, accepted-iff, settle-refused-iff, settle-given-iff, filledTold}
 use Rattle.lists.proofs.Below.{Below}
 use Rattle.lists.proofs.Tests.{and-right}
 use Rattle.fields.specs.declared.Letters.{Letters}
@@ -51,12 +52,17 @@ use Rattle.stream.proofs.Stream.{packed-length}
 use Rattle.stream.proofs.Pages.{over-closing, over-same}
 use Rattle.stream.proofs.Calls.{fit-page}
 use Rattle.stream.proofs.Theorems.{pack-spare, unpack-spare}
+use Rattle.lettered.specs.declared.LetteredRead.{LetteredRead}
 use Rattle.lettered.specs.declared.LetteredRead.the-variants as read
 use Rattle.lettered.specs.LetteredPage.{roomSeptets, roomUnits, letteredOctets, letteredSizeRules, letteredWriteRules, letteredWrites, letteredWriteLeaves, lettersIn, closedByCr, wrongLetters, letteredText, letteredReadRules, letteredReads, letteredReadLeaves}
 use Rattle.lettered.proofs.Texts.{heldOf, closed-text, closed-content}
 use Rattle.lettered.proofs.Pages.{roomOf, room-held, filling, filling-length, filling-below, framed, lettered-framed, behind, text-behind, framed-length, framed-letters, framed-cr, framed-behind}
 use Rattle.lettered.proofs.Spare.{unpadded, low-same}
-use Rattle.lettered.proofs.Rules.{gives, given-iff, accepted-iff, settle-refused-iff, settle-given-iff, filledTold, readTold}
+
+-- the verdict that an answer of reading tells
+abbrev readTold : LetteredRead → Verdict
+readTold (read.Done n l) = accepted
+readTold (read.Refused q) = refused q
 
 -- letters and a text that a page can be written of, where there is room for its octets
 pub record WritablePage (ucs2 : Bool) (l : Letters) (t : List ℕ) : Type 0 where

@@ -3,3 +3,5 @@ pub mod Settled
 pub mod Refusing
 pub mod PageRefusing
 pub mod Outcomes
+pub mod MeterRefusing
+pub mod Room

@@ -33,6 +33,16 @@ use Rattle.wikuay.proofs.broadcasts.wikuay_write_pages.Kinds as write-p
 use Rattle.wikuay.proofs.broadcasts.wikuay_write_pages.Reads as write-pages
 use Rattle.wikuay.proofs.broadcasts.wikuay_join_pages.Kinds as join-pages-kinds
 use Rattle.wikuay.proofs.broadcasts.wikuay_join_pages.Reads as join-pages
+use Rattle.wikuay.proofs.meters.wikuay_new_meter.Kinds as new-meter-kinds
+use Rattle.wikuay.proofs.meters.wikuay_new_meter.Reads as new-meter
+use Rattle.wikuay.proofs.meters.wikuay_room_left.Kinds as room-left-kinds
+use Rattle.wikuay.proofs.meters.wikuay_room_left.Reads as room-left
+use Rattle.wikuay.proofs.meters.wikuay_unit_added.Kinds as unit-added-kinds
+use Rattle.wikuay.proofs.meters.wikuay_unit_added.Reads as unit-added
+use Rattle.wikuay.proofs.meters.wikuay_unit_taken_back.Kinds as unit-taken-back-kinds
+use Rattle.wikuay.proofs.meters.wikuay_unit_taken_back.Reads as unit-taken-back
+use Rattle.wikuay.proofs.meters.wikuay_meter_cleared.Kinds as meter-cleared-kinds
+use Rattle.wikuay.proofs.meters.wikuay_meter_cleared.Reads as meter-cleared
 
 pub wikuay-version-unique : OneAnswer version-kinds.ps version-kinds.r version.Post
 wikuay-version-unique κs a x y u v p q = p ∙ sym q
@@ -102,3 +112,18 @@ wikuay-join-pages-unique κs a x y u v p q = p .0 ∙ sym (q .0)
 
 pub wikuay-join-pages-buffer-unique : OneBuffer join-pages-kinds.ps join-pages-kinds.r (λ κs u. now (u .1 .0)) join-pages.Post
 wikuay-join-pages-buffer-unique κs a x y u v p q = p .1 ∙ sym (q .1)
+
+pub wikuay-new-meter-unique : OneAnswer new-meter-kinds.ps new-meter-kinds.r new-meter.Post
+wikuay-new-meter-unique κs a x y u v p q = p ∙ sym q
+
+pub wikuay-room-left-unique : OneAnswer room-left-kinds.ps room-left-kinds.r room-left.Post
+wikuay-room-left-unique κs a x y u v p q = p ∙ sym q
+
+pub wikuay-unit-added-unique : OneAnswer unit-added-kinds.ps unit-added-kinds.r unit-added.Post
+wikuay-unit-added-unique κs a x y u v p q = p ∙ sym q
+
+pub wikuay-unit-taken-back-unique : OneAnswer unit-taken-back-kinds.ps unit-taken-back-kinds.r unit-taken-back.Post
+wikuay-unit-taken-back-unique κs a x y u v p q = p ∙ sym q
+
+pub wikuay-meter-cleared-unique : OneAnswer meter-cleared-kinds.ps meter-cleared-kinds.r meter-cleared.Post
+wikuay-meter-cleared-unique κs a x y u v p q = p ∙ sym q

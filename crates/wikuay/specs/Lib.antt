@@ -1,3 +1,4 @@
 pub mod Calls
 pub mod PageCalls
 pub mod Refusing
+pub mod MeterCalls

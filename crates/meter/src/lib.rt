@@ -1,0 +1,145 @@
+// The room left while a text is typed (document 02, W4): one record, which each key changes in place, by a function that takes it and gives it back.
+// A key takes the same time whatever was typed before: no text is kept.
+ghost use mathlib.Core.Path.{_≡_};
+ghost use Prim.Native.Nat.{_≤_};
+ghost use Rattle.metered.specs.Metered.{add, back, clear, newMeter, remains, unitSeptets, keyed};
+ghost use Rattle.metered.specs.Inner.{lessOr, refusedKey, judgedAs};
+use letters::Listed;
+use metered::Keyed;
+use metered::Meter;
+use metered::Pressed;
+use words::Refusal;
+use words::Service;
+
+// A meter for a service: nothing is typed yet.
+pub fn new_meter(service: Service) -> Meter
+    ensures answer { λ r. ⌜ r ≡ newMeter service ⌝ }
+{
+    Meter {
+        service: service,
+        used: 0,
+    }
+}
+
+// The number to show: how many septets remain, below zero where the text is over.
+pub fn left(meter: Meter) -> i64
+    ensures answer { λ r. ⌜ r ≡ remains meter ⌝ }
+{
+    let service = meter.service;
+    let size = service.most_septets() as i64;
+    let used = meter.used as i64;
+    size - used
+}
+
+// The unit is typed. Refuses 6, 5.
+pub fn added(meter: Meter, unit: u16) -> Keyed
+    ensures answer { λ r. ⌜ r ≡ keyed meter (add unit) ⌝ }
+{
+    let septets = septets_of(unit);
+    let used = meter.used as u64;
+    judged(meter, septets, used + septets)
+}
+
+// The unit is taken back. Refuses 6, 5.
+pub fn taken_back(meter: Meter, unit: u16) -> Keyed
+    ensures answer { λ r. ⌜ r ≡ keyed meter (back unit) ⌝ }
+{
+    let septets = septets_of(unit);
+    let used = meter.used as u64;
+    judged(meter, septets, less(used, septets))
+}
+
+// The whole text is taken back. Refuses nothing.
+pub fn cleared(meter: Meter) -> Keyed
+    ensures answer { λ r. ⌜ r ≡ keyed meter clear ⌝ }
+{
+    let service = meter.service;
+    let empty = new_meter(service);
+    Keyed {
+        meter: empty,
+        answer: Pressed::Went,
+    }
+}
+
+// `added`, in place.
+pub fn add(meter: &mut Meter, unit: u16) -> Pressed
+    ensures answer { λ r. ⌜ r ≡ keyed (now (meter .entry)) (add unit) .answer ⌝ }
+    ensures record { λ _. ⌜ now (meter .exit) ≡ keyed (now (meter .entry)) (add unit) .meter ⌝ }
+{
+    let after = added(*meter, unit);
+    *meter = after.meter;
+    after.answer
+}
+
+// How many septets a unit takes: none where it is unlisted.
+fn septets_of(unit: u16) -> u64
+    ensures { λ r. ⌜ (r ≡ unitSeptets unit) × (r ≤ 2) ⌝ }
+{
+    let listed = codes::find(unit);
+    match listed {
+        Listed::Unlisted => 0,
+        Listed::Main(_) => 1,
+        Listed::Extension(_) => 2,
+    }
+}
+
+// The septets used less those of a unit; where that is below zero, one more than a sum may be.
+fn less(used: u64, septets: u64) -> u64
+    ensures { λ r. ⌜ r ≡ lessOr used septets ⌝ }
+{
+    if used < septets {
+        return 65_536;
+    }
+    used - septets
+}
+
+// A key of a unit that takes so many septets, where it leaves the sum.
+fn judged(meter: Meter, septets: u64, sum: u64) -> Keyed
+    ensures { λ r. ⌜ r ≡ judgedAs meter septets sum ⌝ }
+{
+    if septets == 0 {
+        return refused(meter, Refusal::Unlisted { unit: 0 });
+    }
+    if 65_535 < sum {
+        return refused(meter, Refusal::TooLong);
+    }
+    let service = meter.service;
+    let next = Meter {
+        service: service,
+        used: sum as u32,
+    };
+    Keyed {
+        meter: next,
+        answer: Pressed::Went,
+    }
+}
+
+// A refused key: the record is as it was.
+fn refused(meter: Meter, refusal: Refusal) -> Keyed
+    ensures { λ r. ⌜ r ≡ refusedKey meter refusal ⌝ }
+{
+    Keyed {
+        meter: meter,
+        answer: Pressed::Refused(refusal),
+    }
+}
+
+// `taken_back`, in place.
+pub fn take_back(meter: &mut Meter, unit: u16) -> Pressed
+    ensures answer { λ r. ⌜ r ≡ keyed (now (meter .entry)) (back unit) .answer ⌝ }
+    ensures record { λ _. ⌜ now (meter .exit) ≡ keyed (now (meter .entry)) (back unit) .meter ⌝ }
+{
+    let after = taken_back(*meter, unit);
+    *meter = after.meter;
+    after.answer
+}
+
+// `cleared`, in place.
+pub fn clear(meter: &mut Meter) -> Pressed
+    ensures answer { λ r. ⌜ r ≡ keyed (now (meter .entry)) clear .answer ⌝ }
+    ensures record { λ _. ⌜ now (meter .exit) ≡ keyed (now (meter .entry)) clear .meter ⌝ }
+{
+    let after = cleared(*meter);
+    *meter = after.meter;
+    after.answer
+}

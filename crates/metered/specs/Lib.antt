@@ -1,0 +1,3 @@
+pub mod Metered
+pub mod Typed
+pub mod Inner
