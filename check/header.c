@@ -59,6 +59,8 @@ int main(void) {
   if (sizeof(wikuay_reading) != 12 || offsetof(wikuay_reading, notice) != 8 ||
       offsetof(wikuay_reading, first_letter) != 10 || offsetof(wikuay_reading, second_letter) != 11)
     faults += differ("a reading", "laid out otherwise", "12 octets, the letters in the last two");
+  if (sizeof(wikuay_meter) != 8 || sizeof(wikuay_meter_answer) != 32 || offsetof(wikuay_meter_answer, meter) != 24)
+    faults += differ("a meter", "laid out otherwise", "8 octets, the last of an answer's 32");
   if (wikuay_plain().first_letter != 0 || wikuay_plain().second_letter != 0)
     faults += differ("the plain reading", "with letters", "without");
   for (uint32_t n = 0; n < KNOWN; n++) {

@@ -4,8 +4,9 @@
  * The vectors name services and fields by words, so that they cannot ask what a number does that names nothing. Here
  * every service number of a wide range, and every number of every field, is handed to every call that takes one. So is
  * every pair of language letters, every sequence number and message identifier, every page parameter, and page numbers
- * of a wide range. The version of the library must be that of the header. It prints how many answers were judged and
- * how many are wrong; the exit status is 1 if one is. C99 and C++11.
+ * of a wide range. Every unit is typed on a meter and taken back, and texts are typed key by key and counted afresh at
+ * each. The version of the library must be that of the header. It prints how many answers were judged and how many are
+ * wrong; the exit status is 1 if one is. C99 and C++11.
  */
 #include <stdio.h>
 #include <string.h>
@@ -57,6 +58,16 @@ static int join_refused(wikuay_join_answer a, uint32_t refusal) {
          a.identifier == 0 && same(a.reading, wikuay_plain());
 }
 
+/* The answer of a key is this refusal, and shows this number and this record. */
+static int metered(wikuay_meter_answer a, uint32_t refusal, int64_t left, uint32_t service, uint32_t used) {
+  return a.refusal == refusal && a.position == 0 && a.left == left && a.meter.service == service &&
+         a.meter.used == used;
+}
+
+static int meter_is_8(wikuay_meter_answer a, uint32_t service, uint32_t used) {
+  return metered(a, WIKUAY_REFUSED_UNWRITABLE, 0, service, used);
+}
+
 static int all_are(const void *memory, size_t size, uint8_t octet) {
   const uint8_t *at = (const uint8_t *)memory;
   while (size && *at == octet) at++, size--;
@@ -69,6 +80,7 @@ static void no_service(uint32_t service) {
   static const uint16_t text[] = {0x0041, 0x4E2D};
   uint8_t octets[WIKUAY_MOST_OCTETS], before[WIKUAY_MOST_OCTETS];
   uint16_t units[WIKUAY_MOST_UNITS], units_before[WIKUAY_MOST_UNITS];
+  wikuay_meter meter = {0, 7};
   memset(octets, 0xA5, sizeof octets);
   memset(units, 0xA5, sizeof units);
   memcpy(before, octets, sizeof octets);
@@ -83,6 +95,12 @@ static void no_service(uint32_t service) {
         "wikuay_write_message, service", service);
   judge(memcmp(before, octets, sizeof octets) == 0 && memcmp(units_before, units, sizeof units) == 0,
         "a buffer is touched under service", service);
+  meter.service = service;
+  judge(meter_is_8(wikuay_new_meter(service), service, 0), "wikuay_new_meter, service", service);
+  judge(meter_is_8(wikuay_room_left(meter), service, 7), "wikuay_room_left, service", service);
+  judge(meter_is_8(wikuay_unit_added(meter, 0x4E2D), service, 7), "wikuay_unit_added, service", service);
+  judge(meter_is_8(wikuay_unit_taken_back(meter, 0x4E2D), service, 7), "wikuay_unit_taken_back, service", service);
+  judge(meter_is_8(wikuay_meter_cleared(meter), service, 7), "wikuay_meter_cleared, service", service);
 }
 
 /* A reading with this number in a field: named says whether the number names a value of that field. */
@@ -296,6 +314,82 @@ static int is_notice(unsigned long number) {
   return number == WIKUAY_NO_NOTICE;
 }
 
+static const int64_t sizes[] = {WIKUAY_SHORT_MESSAGE_SEPTETS, WIKUAY_BROADCAST_SEPTETS, WIKUAY_USSD_SEPTETS,
+                                WIKUAY_OLD_PAGE_SEPTETS};
+
+/* A key that moves the sum by so many septets, or by none where the unit is unlisted. */
+static int moved(wikuay_meter_answer a, wikuay_meter m, int64_t septets) {
+  int64_t sum = (int64_t)m.used + septets;
+  if (septets == 0) return metered(a, WIKUAY_REFUSED_UNLISTED, sizes[m.service] - m.used, m.service, m.used);
+  if (sum < 0 || WIKUAY_METER_SEPTETS < sum)
+    return metered(a, WIKUAY_REFUSED_TOO_LONG, sizes[m.service] - m.used, m.service, m.used);
+  return metered(a, 0, sizes[m.service] - sum, m.service, (uint32_t)sum);
+}
+
+/* A unit on a record, by the septets that writing it gives. */
+static void pressed(uint32_t service, uint32_t used, uint16_t unit) {
+  uint8_t septets[2];
+  wikuay_meter meter, kept;
+  int64_t count = (int64_t)wikuay_text_to_septets(&unit, 1, septets, 2).written;
+  meter.service = service, meter.used = used;
+  judge(moved(wikuay_unit_added(meter, unit), meter, count), "wikuay_unit_added, unit", unit);
+  judge(moved(wikuay_unit_taken_back(meter, unit), meter, -count), "wikuay_unit_taken_back, unit", unit);
+  kept = meter;
+  judge(moved(wikuay_add_unit(&kept, unit), meter, count), "wikuay_add_unit, unit", unit);
+  kept = meter;
+  judge(moved(wikuay_take_back_unit(&kept, unit), meter, -count), "wikuay_take_back_unit, unit", unit);
+}
+
+/* A record: what it shows, and each kind of unit on it. */
+static void recorded(uint32_t used) {
+  uint32_t service;
+  for (service = WIKUAY_SHORT_MESSAGE; service <= WIKUAY_OLD_PAGE; service++) {
+    wikuay_meter meter;
+    meter.service = service, meter.used = used;
+    judge(metered(wikuay_room_left(meter), 0, sizes[service] - used, service, used), "wikuay_room_left, used", used);
+    judge(metered(wikuay_meter_cleared(meter), 0, sizes[service], service, 0), "wikuay_meter_cleared, used", used);
+    pressed(service, used, 0x0041);
+    pressed(service, used, 0x20AC);
+    pressed(service, used, 0x4E2D);
+  }
+}
+
+/* Keys by chance, in place: the number must be the size less the septets of the text, counted afresh at each key, and
+   below zero exactly where the writer refuses the text with 5. An old page is not written. */
+static void typed(uint32_t service, unsigned long seed) {
+  static const uint16_t keys[] = {0x0041, 0x0020, 0x000D, 0x20AC, 0x005B, 0x000C, 0x4E2D, 0x0060};
+  static uint16_t text[400];
+  static uint8_t septets[2 * 400];
+  uint8_t octets[WIKUAY_MOST_OCTETS];
+  size_t length = 0;
+  wikuay_meter meter = wikuay_new_meter(service).meter;
+  unsigned long turn;
+  for (turn = 0; turn < 3000; turn++) {
+    unsigned long draw;
+    wikuay_meter_answer a;
+    wikuay_answer count, sent;
+    seed = (seed * 1103515245UL + 12345UL) & 0x7FFFFFFFUL;
+    draw = seed >> 12;
+    if (draw % 701 == 0) {
+      a = wikuay_clear_meter(&meter);
+      length = 0;
+    } else if ((draw % 5 < 2 || length == 400) && length) {
+      a = wikuay_take_back_unit(&meter, text[length - 1]);
+      length--;
+    } else {
+      text[length] = keys[draw / 5 % 8];
+      a = wikuay_add_unit(&meter, text[length]);
+      if (a.refusal == 0) length++;
+    }
+    count = wikuay_text_to_septets(text, length, septets, sizeof septets);
+    judge(count.refusal == 0 && (a.refusal == 0 || a.refusal == WIKUAY_REFUSED_UNLISTED), "typed, turn", turn);
+    judge(meter.used == a.meter.used && a.left == sizes[service] - (int64_t)count.written, "counted afresh, turn", turn);
+    if (service == WIKUAY_OLD_PAGE) continue;
+    sent = wikuay_write_message(service, wikuay_plain(), text, length, octets, sizeof octets);
+    judge((a.left < 0) == (sent.refusal == WIKUAY_REFUSED_TOO_LONG), "typed and written, turn", turn);
+  }
+}
+
 int main(void) {
   unsigned long number;
   uint32_t service;
@@ -331,6 +425,14 @@ int main(void) {
     letters(r, number);
     pair((uint16_t)number, (uint16_t)(65535 - number));
   }
+  for (number = 0; number < 65536; number++)
+    for (service = WIKUAY_SHORT_MESSAGE; service <= WIKUAY_OLD_PAGE; service++) pressed(service, 90, (uint16_t)number);
+  for (number = 0; number < 300; number++) recorded((uint32_t)number);
+  for (number = 65500; number < 65600; number++) recorded((uint32_t)number);
+  for (number = 9; number < 32; number++) recorded((uint32_t)1 << number), recorded(((uint32_t)1 << number) + 1);
+  recorded(UINT32_MAX), recorded(UINT32_MAX - 1);
+  for (service = WIKUAY_SHORT_MESSAGE; service <= WIKUAY_OLD_PAGE; service++)
+    for (number = 0; number < 20; number++) typed(service, 23038 + number);
   for (number = 0; number < 300; number++) page_number(number);
   for (number = 9; number < 64; number++) page_number((size_t)1 << number), page_number(((size_t)1 << number) + 1);
   page_number(SIZE_MAX);

@@ -82,7 +82,9 @@ typedef struct {
 } run;
 
 typedef struct {
-  uint32_t service, count, room, refusal, position, written, holds, sequence, identifier, pages, total, number;
+  uint32_t service, count, room, refusal, position, written, holds, sequence, identifier, pages, total, number, used;
+  int64_t left;
+  uint16_t unit;
   unsigned coding;
   wikuay_reading reading;
   wikuay_block block;
@@ -252,6 +254,15 @@ static int parse_number(const char *text, uint32_t most, uint32_t *number) {
   return 1;
 }
 
+/* A number, with a - in front of it where it is below zero. */
+static int parse_signed(const char *text, int64_t *number) {
+  uint32_t size;
+  int below = *text == '-';
+  if (!parse_number(text + below, UINT32_MAX, &size) || (below && size == 0)) return 0;
+  *number = below ? -(int64_t)size : (int64_t)size;
+  return 1;
+}
+
 /* Elements of so many hexadecimal digits: 2 for octets and septets, 4 for units. */
 static int parse_elements(const char *text, size_t digits, run *elements) {
   size_t length = strlen(text), at, k;
@@ -314,6 +325,11 @@ enum {
   BUILD_PAGE,
   WRITE_PAGES,
   JOIN_PAGES,
+  NEW_METER,
+  ROOM_LEFT,
+  UNIT_ADDED,
+  UNIT_TAKEN_BACK,
+  METER_CLEARED,
   CALLS
 };
 
@@ -339,6 +355,11 @@ static const call calls[CALLS] = {
     {"build-page", "sequence identifier reading text number ", "refusal position pages block ", 0},
     {"write-pages", "sequence identifier reading text room ", "refusal position written pages out ", 2},
     {"join-pages", "octets room ", "refusal position written reading sequence identifier pages out ", 4},
+    {"new-meter", "service ", "refusal position left service used ", 0},
+    {"room-left", "service used ", "refusal position left service used ", 0},
+    {"unit-added", "service used unit ", "refusal position left service used ", 0},
+    {"unit-taken-back", "service used unit ", "refusal position left service used ", 0},
+    {"meter-cleared", "service used ", "refusal position left service used ", 0},
 };
 
 static int is(const char *key, size_t length, const char *word) {
@@ -370,6 +391,13 @@ static int parse_value(const char *key, size_t length, const char *text, size_t 
     v->coding = (unsigned)(16 * digit(text[0]) + digit(text[1]));
     return 1;
   }
+  if (is(key, length, "left")) return parse_signed(text, &v->left);
+  if (is(key, length, "unit")) {
+    if (!parse_elements(text, 4, &v->given) || v->given.length != 1) return 0;
+    v->unit = v->given.units[0];
+    v->given.length = 0;
+    return 1;
+  }
   if (is(key, length, "reading")) return parse_reading(text, &v->reading);
   if (is(key, length, "block")) return parse_block(text, &v->block);
   if (is(key, length, "septets") || is(key, length, "octets")) return parse_elements(text, 2, &v->given);
@@ -386,6 +414,7 @@ static int parse_value(const char *key, size_t length, const char *text, size_t 
   if (is(key, length, "pages")) v->pages = number;
   if (is(key, length, "total")) v->total = number;
   if (is(key, length, "number")) v->number = number;
+  if (is(key, length, "used")) v->used = number;
   return 1;
 }
 
@@ -419,6 +448,9 @@ static void print_values(const char *keys, size_t out_digits, const values *v) {
     if (is(keys, length, "pages")) printf("%lu", (unsigned long)v->pages);
     if (is(keys, length, "total")) printf("%lu", (unsigned long)v->total);
     if (is(keys, length, "number")) printf("%lu", (unsigned long)v->number);
+    if (is(keys, length, "used")) printf("%lu", (unsigned long)v->used);
+    if (is(keys, length, "left")) printf("%lld", (long long)v->left);
+    if (is(keys, length, "service")) printf("%s", word_of(services, v->service));
     if (is(keys, length, "block")) print_block(&v->block);
     if (is(keys, length, "coding")) printf("%02X", v->coding);
     if (is(keys, length, "reading")) print_reading(&v->reading);
@@ -434,6 +466,7 @@ static int same_values(const values *a, const values *b, size_t out_digits) {
   return a->refusal == b->refusal && a->position == b->position && a->written == b->written && a->count == b->count &&
          a->coding == b->coding && a->holds == b->holds && a->sequence == b->sequence &&
          a->identifier == b->identifier && a->pages == b->pages && a->total == b->total && a->number == b->number &&
+         a->service == b->service && a->used == b->used && a->left == b->left &&
          memcmp(&a->block, &b->block, sizeof a->block) == 0 && same_reading(&a->reading, &b->reading) &&
          (out_digits == 0 || same_elements(&a->out, &b->out, out_digits));
 }
@@ -500,6 +533,35 @@ static void take_joined(const wikuay_join_answer *a) {
   if (a->position > UINT32_MAX || a->written > UINT32_MAX) wrong_silence = 1;
 }
 
+static void take_meter(const wikuay_meter_answer *a) {
+  came.refusal = a->refusal;
+  came.position = (uint32_t)a->position;
+  came.left = a->left;
+  came.service = a->meter.service;
+  came.used = a->meter.used;
+  if (a->position > UINT32_MAX) wrong_silence = 1;
+}
+
+static int same_meter(const wikuay_meter_answer *a, const wikuay_meter_answer *b) {
+  return a->refusal == b->refusal && a->position == b->position && a->left == b->left &&
+         a->meter.service == b->meter.service && a->meter.used == b->meter.used;
+}
+
+/* A key by value and in place: the two must say the same, and leave the same record. */
+static wikuay_meter_answer press(int c) {
+  wikuay_meter before = {input.service, input.used}, kept = before;
+  wikuay_meter_answer value, place;
+  if (c == UNIT_ADDED)
+    value = wikuay_unit_added(before, input.unit), place = wikuay_add_unit(&kept, input.unit);
+  else if (c == UNIT_TAKEN_BACK)
+    value = wikuay_unit_taken_back(before, input.unit), place = wikuay_take_back_unit(&kept, input.unit);
+  else
+    value = wikuay_meter_cleared(before), place = wikuay_clear_meter(&kept);
+  if (!same_meter(&value, &place) || kept.service != value.meter.service || kept.used != value.meter.used)
+    fail("a key in place is another than by value");
+  return value;
+}
+
 /* Whether the elements that a call is given are units. */
 static int takes_units(int c) {
   return c == TO_SEPTETS || c == WRITE_MESSAGE || c == COUNT_PAGES || c == BUILD_PAGE || c == WRITE_PAGES;
@@ -519,6 +581,8 @@ static long run_call(int c, int place) {
   wikuay_pages_answer pages;
   wikuay_page_answer page;
   wikuay_join_answer joined;
+  wikuay_meter_answer metered;
+  wikuay_meter meter = {input.service, input.used};
   long touched;
   memcpy(given, in_wide == 2 ? (const void *)input.given.units : (const void *)input.given.octets, given_size);
   memset(out, 0xA5, out_size);
@@ -582,9 +646,21 @@ static long run_call(int c, int place) {
                                  input.given.length, out, input.room);
       take_pages(&pages, 1);
       break;
-    default:
+    case JOIN_PAGES:
       joined = wikuay_join_pages(given, input.given.length, out_units, input.room);
       take_joined(&joined);
+      break;
+    case NEW_METER:
+      metered = wikuay_new_meter(input.service);
+      take_meter(&metered);
+      break;
+    case ROOM_LEFT:
+      metered = wikuay_room_left(meter);
+      take_meter(&metered);
+      break;
+    default:
+      metered = press(c);
+      take_meter(&metered);
       break;
   }
   if (memcmp(given, in_wide == 2 ? (const void *)input.given.units : (const void *)input.given.octets, given_size) != 0)

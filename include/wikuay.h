@@ -1,6 +1,6 @@
 /*
- * wikuay.h: the text that mobile networks carry, by 3GPP TS 23.038, and broadcasts of several pages, in the blocks of
- * 3GPP TS 23.041. C99 and C++11, for x86-64 Linux.
+ * wikuay.h: the text that mobile networks carry, by 3GPP TS 23.038, broadcasts of several pages, in the blocks of 3GPP
+ * TS 23.041, and the room left while a text is typed. C99 and C++11, for x86-64 Linux.
  *
  * Link libwikuay.a or libwikuay.so. Nothing is allocated, kept or printed; every call returns and may run in any
  * thread.
@@ -16,10 +16,10 @@
  * A flag is a uint8_t of 0 or 1. The count is TP-UDL, and a coding octet is the data coding scheme (DCS).
  *
  * An answer with refusal 0 is a success: the result is the first `written` elements of `out`, and the rest of `out` is
- * as it came. Any other answer is a refusal: `out` is as it came, written, count, coding, holds, pages, sequence and
- * identifier are 0, the octets of a block are 0, and the reading is WIKUAY_PLAIN. Each call names its refusals in the
- * order in which they are judged, and its clauses of TS 23.038. Every call is proved to answer so: docs/OUTCOMES.md of
- * the source names the theorems.
+ * as it came. Any other answer is a refusal: `out` is as it came, and so is a meter; written, count, coding, holds,
+ * pages, sequence and identifier are 0, the octets of a block are 0, and the reading is WIKUAY_PLAIN. Each call names
+ * its refusals in the order in which they are judged, and its clauses of TS 23.038. Every call is proved to answer so:
+ * docs/OUTCOMES.md of the source names the theorems.
  */
 #ifndef WIKUAY_H
 #define WIKUAY_H
@@ -49,7 +49,7 @@ extern "C" {
 #define WIKUAY_REFUSED_NO_TEXT 2        /* the coding holds no text: 8-bit, WAP, I1, an old page's alphabet not 0 */
 #define WIKUAY_REFUSED_PREFIXED 3       /* the coding has the prefix mark, but on one page, or the header mark */
 #define WIKUAY_REFUSED_WRONG_LENGTH 4   /* octets do not fit the service or count, or are not whole blocks or units */
-#define WIKUAY_REFUSED_TOO_LONG 5       /* text over the size of the service or behind letters, or over 15 pages */
+#define WIKUAY_REFUSED_TOO_LONG 5       /* text over the service's size, behind letters or 15 pages; a meter's sum */
 #define WIKUAY_REFUSED_UNLISTED 6       /* a unit is not in the alphabet; position: the first such unit */
 #define WIKUAY_REFUSED_NO_ROOM 7        /* the lent buffer is shorter than the result */
 #define WIKUAY_REFUSED_UNWRITABLE 8     /* the reading cannot be written under the service; a number names nothing */
@@ -127,6 +127,9 @@ static inline const char *wikuay_refusal_text(uint32_t refusal) {
 #define WIKUAY_MOST_PAGES 15
 #define WIKUAY_PAGES_OCTETS 1320 /* room for what wikuay_write_pages stores */
 #define WIKUAY_PAGES_UNITS 1395  /* room for what wikuay_join_pages stores */
+
+/* A meter counts up to so many septets: far more than a service holds, since it goes on below zero. */
+#define WIKUAY_METER_SEPTETS 65535
 
 /* Alphabets of a reading. */
 #define WIKUAY_7BIT 0
@@ -269,6 +272,22 @@ typedef struct {
   wikuay_reading reading; /* what the coding octet of every block says */
 } wikuay_join_answer;
 
+/* A meter: one small record, kept while a text is typed. No text is kept, and a key takes the same time whatever was
+   typed before. */
+typedef struct {
+  uint32_t service; /* WIKUAY_SHORT_MESSAGE .. WIKUAY_OLD_PAGE */
+  uint32_t used;    /* how many septets the text takes, 0 to WIKUAY_METER_SEPTETS where only keys changed it */
+} wikuay_meter;
+
+/* What a call of a meter answers. */
+typedef struct {
+  uint32_t refusal;   /* 0, or a WIKUAY_REFUSED_.. number */
+  size_t position;    /* 0, since no refusal of these calls has a position */
+  int64_t left;       /* the number to show: how many septets remain, below zero where the text is over; 0 where the
+                         service is unknown */
+  wikuay_meter meter; /* the record after the key; as it came in a refusal */
+} wikuay_meter_answer;
+
 /* The version of the library that is linked, as WIKUAY_VERSION_NUMBER has that of the header. Refuses nothing. */
 uint32_t wikuay_version(void);
 
@@ -380,6 +399,57 @@ wikuay_pages_answer wikuay_write_pages(uint16_t sequence, uint16_t identifier, w
  * numbered 0 or above the total, or of differing headers or totals; 7. Stores units.
  */
 wikuay_join_answer wikuay_join_pages(const uint8_t *blocks, size_t blocks_len, uint16_t *out, size_t out_len);
+
+/*
+ * A meter for a service, with nothing typed: the number to show is the service's size in septets of 7-bit text.
+ * Refuses: 8 unknown service.
+ */
+wikuay_meter_answer wikuay_new_meter(uint32_t service);
+
+/*
+ * The number that a meter shows: the service's size less the septets used.
+ * Refuses: 8 unknown service.
+ */
+wikuay_meter_answer wikuay_room_left(wikuay_meter meter);
+
+/*
+ * The key that types a unit: the meter with its septets added, one or two with an escape. Clauses 6.2.1 and 6.2.1.1.
+ * A text that is over the service is no refusal: the number to show is then below zero.
+ * Refuses: 8 unknown service, 6, 5 a sum above WIKUAY_METER_SEPTETS. wikuay_add_unit does it in place.
+ */
+wikuay_meter_answer wikuay_unit_added(wikuay_meter meter, uint16_t unit);
+
+/*
+ * The key that takes a unit back: the meter without the septets of the unit that goes. Clauses 6.2.1 and 6.2.1.1.
+ * Refuses: 8 unknown service, 6, 5 a sum below zero or above WIKUAY_METER_SEPTETS. wikuay_take_back_unit does it in
+ * place.
+ */
+wikuay_meter_answer wikuay_unit_taken_back(wikuay_meter meter, uint16_t unit);
+
+/*
+ * The key that clears: the meter as a new one for its service.
+ * Refuses: 8 unknown service. wikuay_clear_meter does it in place.
+ */
+wikuay_meter_answer wikuay_meter_cleared(wikuay_meter meter);
+
+/* The keys in place: `*meter` is changed, and stays as it was where the key is refused. */
+static inline wikuay_meter_answer wikuay_add_unit(wikuay_meter *meter, uint16_t unit) {
+  wikuay_meter_answer answer = wikuay_unit_added(*meter, unit);
+  *meter = answer.meter;
+  return answer;
+}
+
+static inline wikuay_meter_answer wikuay_take_back_unit(wikuay_meter *meter, uint16_t unit) {
+  wikuay_meter_answer answer = wikuay_unit_taken_back(*meter, unit);
+  *meter = answer.meter;
+  return answer;
+}
+
+static inline wikuay_meter_answer wikuay_clear_meter(wikuay_meter *meter) {
+  wikuay_meter_answer answer = wikuay_meter_cleared(*meter);
+  *meter = answer.meter;
+  return answer;
+}
 
 #ifdef __cplusplus
 }
