@@ -4,7 +4,8 @@
 A public call has no `requires`. Its `ensures answer` is an equation of the result with a definition, and for each lent `&mut`
 buffer one clause is an equation of its contents at exit. The definitions stand in specs/ of a crate, and not in an Inner file.
 In proofs/Outcomes.antt of its crate, which Lib.antt names, a lemma states `OneAnswer` of that call's own contract, and one
-`OneBuffer` for each lent buffer: any two outcomes coincide. docs/OUTCOMES.md has a row for each call, and for nothing else.
+`OneBuffer` for each lent buffer: any two outcomes coincide. Of a call that borrows a struct, whose proof walks its code, they
+state `OneResult` and `OneRecord` of its clauses. docs/OUTCOMES.md has a row for each call, and for nothing else.
 This reads text. That a contract holds is for the proofs to say, and that it says enough is for a reader.
 
     contracts.py              judges the source
@@ -39,7 +40,7 @@ def parameters(head):
 
 def lemmas_in(text):
     """The lemmas of a proof file by name, each with the statement on one line, and the modules by the names that it gives them."""
-    stated = {m[1]: " ".join(m[2].split()) for m in re.finditer(r"^pub (\S+) :(.*?)(?=^\S+ .*=|\Z)", text, re.M | re.S)}
+    stated = {m[1]: " ".join(m[2].split()) for m in re.finditer(r"^ *pub (\S+) :(.*?)(?=^ *\S+ .*=|\Z)", text, re.M | re.S)}
     modules = {m[2]: m[1] for m in re.finditer(r"^use (\S+) as (\S+)$", text, re.M)}
     return stated, modules
 
@@ -78,25 +79,31 @@ def judged(crate, module, name, kind, head, outcomes, defined):
     stems = [law] + ([f"{kind.lower()}-{law}"] if kind else [])
     own = f"Rattle.{crate}.proofs.{module}{kind + '.' if kind else ''}{name}"
 
+    # What each name in a lemma's form must stand for: the call's modules of a contract that is read, or the call's own module.
+    walked = any(re.search(r": &(?:'\w+ )?mut [A-Z]", one) for one in parameters(front))
+    answer = "OneResult 𝓤 ENDED CLAUSES" if walked else "OneAnswer KINDS POST"
+    kept = r"OneRecord 𝓤 ENDED \(λ κs u\. now \(uPATH\)\) CLAUSES" if walked else r"OneBuffer KINDS \(λ κs u\. now \(uPATH\)\) POST"
+    means = [own, own] if walked else [own + ".Kinds", own + ".Kinds", own + ".Reads"]
+
     def stating(form):
         """The lemma of this call that has this form, over the call's own contract, or None."""
+        parts = {"KINDS": r"(\S+)\.ps (\S+)\.r", "POST": r"(\S+)\.Post", "ENDED": r"(\S+)\.ended", "CLAUSES": r"\((\S+)\.clauses 𝓤 H A mem run\)"}
+        for part, spelling in parts.items():
+            form = form.replace(part, spelling)
         for stem, statement in stated.items():
-            said = re.fullmatch(form.replace("KINDS", r"(\S+)\.ps (\S+)\.r").replace("POST", r"(\S+)\.Post"), statement)
-            if said and any(re.fullmatch(rf"{one}(-\S+)?-unique", stem) for one in stems):
-                first, second, post = said.groups()
-                if modules.get(first) == modules.get(second) == own + ".Kinds" and modules.get(post) == own + ".Reads":
-                    return stem
+            said = re.fullmatch(form, statement)
+            if said and any(re.fullmatch(rf"{one}(-\S+)?-unique", stem) for one in stems) and [modules.get(one) for one in said.groups()] == means:
+                return stem
         return None
 
-    known = re.search(r"^use Rattle.words(?:·proofs)?\.proofs\.Unique\.\{[^}]*OneAnswer", outcomes, re.M)
-    lemmas.append(stating("OneAnswer KINDS POST") if known else None)
+    known = re.search(rf"^use Rattle.words(?:·proofs)?\.proofs\.Unique\.\{{[^}}]*{answer.split()[0]}", outcomes, re.M)
+    lemmas.append(stating(answer) if known else None)
     if not lemmas[0]:
-        wants.append(f"has no lemma {law}-unique that is OneAnswer of its contract")
+        wants.append(f"has no lemma {law}-unique that is {answer.split()[0]} of its contract")
     for at, buffer in buffers:
-        path = re.escape(" .1" * at + " .0")
-        lemmas.append(stating(rf"OneBuffer KINDS \(λ κs u\. now \(u{path}\)\) POST"))
+        lemmas.append(stating(kept.replace("PATH", re.escape(" .1" * at + " .0"))))
         if not lemmas[-1]:
-            wants.append(f"has no lemma that is OneBuffer of {buffer} and its contract")
+            wants.append(f"has no lemma that is {kept.split()[0]} of {buffer} and its contract")
     return wants, cited, lemmas
 
 
@@ -129,6 +136,23 @@ def self_test():
         ("a lemma of another call", good, laws.replace("kinds.r fill.Post\nfill-unique", "kinds.r other.Post\nfill-unique"), 1),
         ("a lemma of another parameter", good, laws.replace("(u .1 .0)", "(u .0)"), 1),
         ("no import of what it means", good, laws.replace("words.proofs", "own.proofs"), 1),
+    ]
+    lent = (
+        "pub fn press(m: &mut Meter, n: u16) -> Key\n    ensures answer { λ r. ⌜ r ≡ fills (now (m .entry)) n .answer ⌝ }\n"
+        "    ensures record { λ _. ⌜ now (m .exit) ≡ fills (now (m .entry)) n .meter ⌝ }\n{\n}\n"
+    )
+    walks = (
+        "use Rattle.words.proofs.Unique.{OneAnswer, OneResult, OneRecord}\nuse Rattle.a.proofs.press as press\nuse Rattle.a.proofs.other as other\n"
+        "module _ where\n  pub press-unique : OneResult 𝓤 press.ended (press.clauses 𝓤 H A mem run)\n  press-unique κs = p\n\n"
+        "  pub press-record-unique : OneRecord 𝓤 press.ended (λ κs u. now (u .0)) (press.clauses 𝓤 H A mem run)\n  press-record-unique κs = p\n"
+    )
+    faults += [
+        ("nothing of a lent record", lent, walks, 0),
+        ("no lemma of a lent record's answer", lent, walks.replace("pub press-unique", "pub press-other"), 1),
+        ("no lemma of a lent record", lent, walks.replace("pub press-record-unique", "pub press-record-other"), 1),
+        ("a lemma of another call's clauses", lent, walks.replace("(press.clauses 𝓤 H A mem run)\n  press-unique", "(other.clauses 𝓤 H A mem run)\n  press-unique"), 1),
+        ("a lemma of another lent record", lent, walks.replace("(u .0)", "(u .1 .0)"), 1),
+        ("a lent record at entry", lent.replace(".exit", ".entry"), walks, 1),
     ]
     for front in ("const ", "unsafe ", 'extern "C" ', "const unsafe "):
         faults.append((f"a pub {front}fn", good.replace("pub fn", f"pub {front}fn").replace(buffer + "\n", ""), laws, 1))

@@ -20,6 +20,9 @@ use values::plain;
 use values::within;
 use values::within_units;
 use wikuay::broadcasts;
+use wikuay::meters;
+use wikuay::meters::MeterAnswer;
+use wikuay::meters::MeterNumbers;
 
 // The lines so far, the cases among them, and those that differ; and how much of the present line has come, which stays at
 // 16385 for a line that is too long.
@@ -136,6 +139,19 @@ fn join_answered(answer: JoinAnswer) -> Values {
     came
 }
 
+fn meter_answered(answer: MeterAnswer) -> Values {
+    let mut came = plain();
+    let meter = answer.meter;
+    let left = answer.left;
+    came.refusal = answer.refusal as usize;
+    came.position = answer.position;
+    came.service = meter.service as usize;
+    came.used = meter.used as usize;
+    came.below = left < 0;
+    came.left = printed::magnitude(left) as usize;
+    came
+}
+
 // Calls the library on what a case hands over: its answer, and what it leaves in the buffer of octets or in that of units.
 fn called(
     call: usize,
@@ -197,7 +213,24 @@ fn called_paged(
             units,
             out,
         )),
-        _ => join_answered(broadcasts::wikuay_join_pages(octets, text)),
+        13 => join_answered(broadcasts::wikuay_join_pages(octets, text)),
+        _ => called_metered(call, given),
+    }
+}
+
+// The same of the calls of a meter.
+fn called_metered(call: usize, given: Values) -> Values {
+    let meter = MeterNumbers {
+        service: (given.service % 8) as u32,
+        used: (given.used % 4294967296) as u32,
+    };
+    let unit = given.unit;
+    match call {
+        14 => meter_answered(meters::wikuay_new_meter(meter.service)),
+        15 => meter_answered(meters::wikuay_room_left(meter)),
+        16 => meter_answered(meters::wikuay_unit_added(meter, unit)),
+        17 => meter_answered(meters::wikuay_unit_taken_back(meter, unit)),
+        _ => meter_answered(meters::wikuay_meter_cleared(meter)),
     }
 }
 
@@ -322,11 +355,11 @@ fn judge_case(patterns: &[u8], line: &[u8], came: &mut [u8]) -> usize {
     let mut octets = [0u8; 8192];
     let mut units = [0u16; 4096];
     let call = values::place_of(
-        b"read-coding|write-coding|holds-text|pack|unpack|text-to-septets|septets-to-text|read-message|write-message|read-header|count-pages|build-page|write-pages|join-pages|",
+        b"read-coding|write-coding|holds-text|pack|unpack|text-to-septets|septets-to-text|read-message|write-message|read-header|count-pages|build-page|write-pages|join-pages|new-meter|room-left|unit-added|unit-taken-back|meter-cleared|",
         part(text, 0, end_at(text, 0, 32)),
     );
-    let inputs = values::nth(patterns, call % 16 * 2);
-    let answer = values::nth(patterns, call % 16 * 2 + 1);
+    let inputs = values::nth(patterns, call % 32 * 2);
+    let answer = values::nth(patterns, call % 32 * 2 + 1);
     let given = values::take_by(inputs, text, &mut octets, &mut units);
     let at = spelled(inputs, text, given, &octets, &units);
     if at == 0 {
@@ -439,7 +472,7 @@ fn main() {
     let mut came = [0u8; 20480];
     // Of each call, in the order of their numbers: its name and inputs, and its answer.
     let patterns =
-        b"read-coding service=S coding=C : |refusal=F position=P reading=R|write-coding service=S reading=R : |refusal=F position=P coding=C|holds-text reading=R : |refusal=F position=P holds=H|pack service=S septets=O room=M : |refusal=F position=P written=W count=N out=O|unpack service=S count=N octets=O room=M : |refusal=F position=P written=W out=O|text-to-septets text=U room=M : |refusal=F position=P written=W out=O|septets-to-text septets=O room=M : |refusal=F position=P written=W out=U|read-message service=S coding=C count=N octets=O room=M : |refusal=F position=P written=W reading=R out=U|write-message service=S reading=R text=U room=M : |refusal=F position=P written=W count=N coding=C out=O|read-header block=B : |sequence=Q identifier=I coding=C total=T number=K|count-pages reading=R text=U : |refusal=F position=P pages=G|build-page sequence=Q identifier=I reading=R text=U number=K : |refusal=F position=P pages=G block=B|write-pages sequence=Q identifier=I reading=R text=U room=M : |refusal=F position=P written=W pages=G out=O|join-pages octets=O room=M : |refusal=F position=P written=W reading=R sequence=Q identifier=I pages=G out=U|";
+        b"read-coding service=S coding=C : |refusal=F position=P reading=R|write-coding service=S reading=R : |refusal=F position=P coding=C|holds-text reading=R : |refusal=F position=P holds=H|pack service=S septets=O room=M : |refusal=F position=P written=W count=N out=O|unpack service=S count=N octets=O room=M : |refusal=F position=P written=W out=O|text-to-septets text=U room=M : |refusal=F position=P written=W out=O|septets-to-text septets=O room=M : |refusal=F position=P written=W out=U|read-message service=S coding=C count=N octets=O room=M : |refusal=F position=P written=W reading=R out=U|write-message service=S reading=R text=U room=M : |refusal=F position=P written=W count=N coding=C out=O|read-header block=B : |sequence=Q identifier=I coding=C total=T number=K|count-pages reading=R text=U : |refusal=F position=P pages=G|build-page sequence=Q identifier=I reading=R text=U number=K : |refusal=F position=P pages=G block=B|write-pages sequence=Q identifier=I reading=R text=U room=M : |refusal=F position=P written=W pages=G out=O|join-pages octets=O room=M : |refusal=F position=P written=W reading=R sequence=Q identifier=I pages=G out=U|new-meter service=S : |refusal=F position=P left=L service=S used=E|room-left service=S used=E : |refusal=F position=P left=L service=S used=E|unit-added service=S used=E unit=V : |refusal=F position=P left=L service=S used=E|unit-taken-back service=S used=E unit=V : |refusal=F position=P left=L service=S used=E|meter-cleared service=S used=E : |refusal=F position=P left=L service=S used=E|";
     let t = feed_all(patterns, &mut chunk, &mut line, &mut came);
     let total = if t.len == 0 {
         t

@@ -1,7 +1,7 @@
 // The values of a case by the letters of a pattern: taken out of a line, and put into a buffer.
 // F, P, W, N, G, T and K are the numbers refusal, position, written, count, pages, total and number, Q and I are the pairs sequence and
-// identifier, M is the room, S the service, C a coding octet, R a reading, H what is held, B a block, O octets and U units. Values are taken as
-// they come: a line is a case where they put it again, letter by letter.
+// identifier, M is the room, S the service, C a coding octet, R a reading, H what is held, B a block, O octets and U units. Of a meter E is the number
+// used, L the number left, which has a sign, and V a unit. Values are taken as they come: a line is a case where they put it again, letter by letter.
 use crate::reading;
 use names::ReadingNumbers;
 use printed::put;
@@ -25,6 +25,11 @@ pub(crate) struct Values {
     pub total: usize,
     pub number: usize,
     pub block: [u8; 88],
+    pub used: usize,
+    // The number left: whether it is below zero, and how far it is from there.
+    pub below: bool,
+    pub left: usize,
+    pub unit: u16,
     // How many octets or units there are.
     pub n: usize,
 }
@@ -46,6 +51,10 @@ pub(crate) fn plain() -> Values {
         total: 0,
         number: 0,
         block: [0u8; 88],
+        used: 0,
+        below: false,
+        left: 0,
+        unit: 0,
         n: 0,
     }
 }
@@ -138,6 +147,12 @@ pub(crate) fn octet_of(word: &[u8]) -> u8 {
     one[0]
 }
 
+fn unit_of(word: &[u8]) -> u16 {
+    let mut one = [0u16; 1];
+    typed::read_units(word, &mut one);
+    one[0]
+}
+
 fn block_of(word: &[u8]) -> [u8; 88] {
     let mut block = [0u8; 88];
     typed::read_octets(word, &mut block);
@@ -172,6 +187,12 @@ fn take(values: Values, letter: u8, word: &[u8], octets: &mut [u8], units: &mut 
         next.block = block;
         return next;
     }
+    if letter == b'L' {
+        let below = has(word, 0, b'-');
+        next.below = below;
+        next.left = number_of(part(word, if below { 1 } else { 0 }, word.len()));
+        return next;
+    }
     let n = number_of(word);
     match letter {
         b'S' => next.service = place_of(b"sms|broadcast|ussd|old|", word),
@@ -187,6 +208,8 @@ fn take(values: Values, letter: u8, word: &[u8], octets: &mut [u8], units: &mut 
         b'K' => next.number = n,
         b'Q' => next.sequence = up_to(65535, n),
         b'I' => next.identifier = up_to(65535, n),
+        b'E' => next.used = n,
+        b'V' => next.unit = unit_of(word),
         _ => next.room = up_to(4096, n),
     }
     next
@@ -231,6 +254,15 @@ pub(crate) fn put_number(out: &mut [u8], at: usize, n: usize) -> usize {
     put(out, at, &digits[..k])
 }
 
+// Puts a number with its sign. Zero has none.
+fn put_signed(out: &mut [u8], at: usize, below: bool, n: usize) -> usize {
+    if !below || n == 0 {
+        return put_number(out, at, n);
+    }
+    let from = put(out, at, b"-");
+    put_number(out, from, n)
+}
+
 // Puts the first octets, or `-` for none.
 fn put_octets(out: &mut [u8], at: usize, octets: &[u8], n: usize) -> usize {
     let k = within(n, octets);
@@ -261,6 +293,7 @@ fn put_value(
     let coding = [values.coding];
     let reading = values.reading;
     let block = values.block;
+    let unit = [values.unit];
     match letter {
         b'S' => put(out, at, nth(b"sms|broadcast|ussd|old|\n|", values.service)),
         b'H' => put(out, at, nth(b"none|7bit|ucs2|\n|", values.held)),
@@ -278,6 +311,9 @@ fn put_value(
         b'Q' => put_number(out, at, values.sequence),
         b'I' => put_number(out, at, values.identifier),
         b'B' => printed::put_octets(out, at, &block),
+        b'E' => put_number(out, at, values.used),
+        b'L' => put_signed(out, at, values.below, values.left),
+        b'V' => printed::put_units(out, at, &unit),
         b'M' => put_number(out, at, values.room),
         _ => put(out, at, &one),
     }

@@ -122,7 +122,7 @@ fn dashed(text: &[u8], at: usize) -> bool {
 
 fn verb_of(word: &[u8]) -> usize {
     place_of(
-        b"write|read|coding|explain|pack|unpack|pages|join|header|lines|help|",
+        b"write|read|coding|explain|pack|unpack|room|pages|join|header|lines|help|",
         word,
     )
 }
@@ -223,7 +223,7 @@ impl Job {
 
     // Whether a text is written: one word, or all of the rest of a line.
     pub(crate) fn writes(self) -> bool {
-        self.verb == help::WRITE || self.verb == help::PAGES
+        self.verb == help::WRITE || self.verb == help::ROOM || self.verb == help::PAGES
     }
 
     // The value of an option that is a number.
@@ -369,7 +369,7 @@ impl Job {
                 return self.wrong(fault::LINE, word, units);
             }
             // A command on several pages has no word for the service: the text or the octets come next.
-            if help::UNPACK < named && named <= help::HEADER {
+            if help::ROOM < named && named <= help::HEADER {
                 next.service = CBS;
                 next.words = 2;
             }
@@ -447,6 +447,7 @@ impl Job {
             help::READ => 259,
             help::EXPLAIN => 3,
             help::UNPACK => 258,
+            help::ROOM => 260,
             help::PAGES => if self.gives(PAGE) { 501 } else { 509 },
             help::HELP => 0,
             _ => 256,

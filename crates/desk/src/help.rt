@@ -14,17 +14,19 @@ pub(crate) const PACK: usize = 4;
 
 pub(crate) const UNPACK: usize = 5;
 
-pub(crate) const PAGES: usize = 6;
+pub(crate) const ROOM: usize = 6;
 
-pub(crate) const JOIN: usize = 7;
+pub(crate) const PAGES: usize = 7;
 
-pub(crate) const HEADER: usize = 8;
+pub(crate) const JOIN: usize = 8;
 
-pub(crate) const LINES: usize = 9;
+pub(crate) const HEADER: usize = 9;
 
-pub(crate) const HELP: usize = 10;
+pub(crate) const LINES: usize = 10;
 
-pub(crate) const VERBS: usize = 11;
+pub(crate) const HELP: usize = 11;
+
+pub(crate) const VERBS: usize = 12;
 
 pub(crate) fn help(out: &mut [u8], at: usize, verb: usize) -> usize {
     match verb {
@@ -127,6 +129,23 @@ wikuay unpack sms --count 2 4121
   septets 4142
 ",
         ),
+        ROOM => put(
+            out,
+            at,
+            b"usage: wikuay room SERVICE TEXT [--json]
+       wikuay room SERVICE --units UNITS [--json]
+Shows how many septets remain after each key of a text, below zero where the text is over. A key that is refused changes nothing.
+  TEXT             plain ASCII, typed as it is; - reads it from standard input, without its closing line end
+  --units UNITS    the text as UCS2 units instead, four hexadecimal digits each
+                   a backspace, 0008, takes the last unit back, and a cancel, 0018, clears
+  --json           answer with one object of JSON
+wikuay room sms 'ok['
+  size 160
+  key 1 o 159
+  key 2 k 158
+  key 3 [ 156
+",
+        ),
         PAGES => put(
             out,
             at,
@@ -181,9 +200,9 @@ wikuay header 000100320F1153F7FB0E32CBDF6DD03C8D6F341A8D46A3D168341A8D46A3D16834
             out,
             at,
             b"usage: wikuay lines [--json]
-Reads one request a line from standard input, as it is typed behind wikuay: write, read, coding, pack, unpack, pages, join or header.
+Reads one request a line from standard input, as it is typed behind wikuay: write, read, coding, pack, unpack, room, pages, join or header.
 Each is answered on one line, in order, with the number of its line. An empty line is passed by.
-The text of write or pages is the rest of its line as it is; options stand before it, and -- before a text that begins with -.
+The text of write, room or pages is the rest of its line as it is; options stand before it, and -- before a text that begins with -.
   --json           answer each line with one object of JSON
 echo 'write sms Hello' | wikuay lines
   1 octets C8329BFD06 count 5 coding 00
@@ -204,6 +223,7 @@ fn general(out: &mut [u8], at: usize) -> usize {
        wikuay explain SERVICE OCTETS    a message drawn, septet by septet
        wikuay pack SERVICE SEPTETS      septets into octets
        wikuay unpack SERVICE OCTETS     octets into septets
+       wikuay room SERVICE TEXT         the room left after each key of a text
        wikuay pages TEXT                a text into the blocks of a broadcast message of several pages
        wikuay join BLOCKS               blocks into text
        wikuay header BLOCK              what stands in a block in front of its text

@@ -5,6 +5,7 @@ use crate::broadcast;
 use crate::draw;
 use crate::fault;
 use crate::help;
+use crate::room;
 use crate::tell;
 use answers::Answer;
 use answers::ReadAnswer;
@@ -488,6 +489,9 @@ pub(crate) fn answer(out: &mut [u8], at: usize, job: Job, text: &[u8], units: &m
     let k = tell::within_units(n, units);
     if k < n {
         return complain(out, at, job.fails(fault::ASCII, 0), units);
+    }
+    if job.verb == help::ROOM {
+        return room::room(out, at, job, &units[..k]);
     }
     if job.verb == help::PAGES {
         return broadcast::write(out, at, job, &units[..k]);

@@ -97,17 +97,17 @@ fn less(used: u64, septets: u64) -> u64
 fn judged(meter: Meter, septets: u64, sum: u64) -> Keyed
     ensures { λ r. ⌜ r ≡ judgedAs meter septets sum ⌝ }
 {
-    if septets == 0 {
+    let service = meter.service;
+    let next = Meter {
+        service: service,
+        used: (sum % 4_294_967_296) as u32,
+    };
+    if septets < 1 {
         return refused(meter, Refusal::Unlisted { unit: 0 });
     }
     if 65_535 < sum {
         return refused(meter, Refusal::TooLong);
     }
-    let service = meter.service;
-    let next = Meter {
-        service: service,
-        used: sum as u32,
-    };
     Keyed {
         meter: next,
         answer: Pressed::Went,

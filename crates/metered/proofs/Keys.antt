@@ -11,7 +11,7 @@ use mathlib.Core.List.{[], _∷_}
 use Prim.Native.Nat.{ℕ, zero, suc, _+_, _-_, _<_, _≤_, _^_, zero-le}
 use native.Mathlib.Decide.{decLe}
 use native.Mathlib.Omega.{arith}
-use lib.Dec.{ltb, eqb}
+use lib.Dec.{ltb}
 use lib.IntN.{ℤ, pos, negsuc, _+ℤ_, _-ℤ_, natAbs}
 use lib.ListN.{length}
 use lib.Signed.{mag}
@@ -71,7 +71,7 @@ less-sum a n l =
 
 -- ---- what is judged
 
-unlisted-none : (l : Listed) → isUnlisted l ≡ eqb (length (septetsFor l)) 0
+unlisted-none : (l : Listed) → isUnlisted l ≡ ltb (length (septetsFor l)) 1
 unlisted-none Unlisted = refl
 unlisted-none (Main code) = refl
 unlisted-none (Extension code) = refl
@@ -92,13 +92,13 @@ pub added-judged : (m : Meter) (u : ℕ) → keyed m (add u) ≡ judgedAs m (uni
 unfolding keyed judgedAs unitSeptets
 added-judged m u =
     let n = m .used + unitSeptets u in
-    rw (unlisted-none (listedAs u)) (judged m (eqb (unitSeptets u) 0) (pos n) n (sum-none n) (λ h. refl))
+    rw (unlisted-none (listedAs u)) (judged m (ltb (unitSeptets u) 1) (pos n) n (sum-none n) (λ h. refl))
 
 pub back-judged : (m : Meter) (u : ℕ) → keyed m (back u) ≡ judgedAs m (unitSeptets u) (lessOr (m .used) (unitSeptets u))
 unfolding keyed judgedAs unitSeptets
 back-judged m u =
     rw (unlisted-none (listedAs u))
-    (judged m (eqb (unitSeptets u) 0) (pos (m .used) -ℤ pos (unitSeptets u)) (lessOr (m .used) (unitSeptets u)) (less-none (m .used) (unitSeptets u)) (less-sum (m .used) (unitSeptets u)))
+    (judged m (ltb (unitSeptets u) 1) (pos (m .used) -ℤ pos (unitSeptets u)) (lessOr (m .used) (unitSeptets u)) (less-none (m .used) (unitSeptets u)) (less-sum (m .used) (unitSeptets u)))
 
 pub clear-keyed : (m : Meter) → keyed m clear ≡ record { meter = newMeter (m .service); answer = Went }
 unfolding keyed verdict

@@ -6,7 +6,7 @@
 use Prim.Native.Nat.{ℕ, _-_}
 use mathlib.Core.Bool.{cond}
 use mathlib.Core.List.{[], _∷_}
-use lib.Dec.{ltb, eqb}
+use lib.Dec.{ltb}
 use Rattle.words.specs.declared.Refusal.{Refusal}
 use Rattle.words.specs.declared.Refusal.the-variants.{Unlisted, TooLong}
 use Rattle.words.specs.Judging.{when, verdict, settle}
@@ -22,5 +22,5 @@ refusedKey m r = record { meter = m; answer = Refused r }
 
 unfoldable pub judgedAs : Meter → ℕ → ℕ → Keyed
 judgedAs m n sum =
-    settle (verdict (when (eqb n 0) (Unlisted 0) ∷ when (ltb 65535 sum) TooLong ∷ [])) (refusedKey m)
+    settle (verdict (when (ltb n 1) (Unlisted 0) ∷ when (ltb 65535 sum) TooLong ∷ [])) (refusedKey m)
     (record { meter = record { service = m .service; used = sum }; answer = Went })

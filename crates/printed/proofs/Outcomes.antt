@@ -9,6 +9,8 @@ use Rattle.printed.proofs.put_octets.Kinds as octets-kinds
 use Rattle.printed.proofs.put_octets.Reads as octets
 use Rattle.printed.proofs.put_units.Kinds as units-kinds
 use Rattle.printed.proofs.put_units.Reads as units
+use Rattle.printed.proofs.magnitude.Kinds as magnitude-kinds
+use Rattle.printed.proofs.magnitude.Reads as magnitude
 
 pub put-unique : OneAnswer put-kinds.ps put-kinds.r put.Post
 put-unique κs a x y u v p q = p .0 ∙ sym (q .0)
@@ -27,3 +29,6 @@ put-units-unique κs a x y u v p q = p .0 ∙ sym (q .0)
 
 pub put-units-buffer-unique : OneBuffer units-kinds.ps units-kinds.r (λ κs u. now (u .0)) units.Post
 put-units-buffer-unique κs a x y u v p q = p .1 ∙ sym (q .1)
+
+pub magnitude-unique : OneAnswer magnitude-kinds.ps magnitude-kinds.r magnitude.Post
+magnitude-unique κs a x y u v p q = p ∙ sym q

@@ -4,8 +4,10 @@
 --   endOf room at n   == where n octets end that are put at a place of a buffer of so much room
 --   octetDigits s     == the octets s, two hexadecimal digits each
 --   unitDigits s      == the units s, four each: those of the higher octet, then those of the lower
+--   distance z        == how far a number is from zero
 use Prim.Native.Nat.{ℕ, zero, suc, _+_, _-_, _/_, _%_, min}
 use mathlib.Core.List.{List, [], _∷_}
+use lib.IntN.{ℤ, natAbs}
 use Rattle.typed.specs.Spelling.{digitFor}
 
 unfoldable pub placed : List ℕ → ℕ → List ℕ → List ℕ
@@ -27,3 +29,6 @@ unitOctets (v ∷ s) = v / 256 % 256 ∷ v % 256 ∷ unitOctets s
 
 unfoldable pub unitDigits : List ℕ → List ℕ
 unitDigits s = octetDigits (unitOctets s)
+
+abbrev pub distance : ℤ → ℕ
+distance z = natAbs z

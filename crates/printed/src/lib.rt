@@ -2,7 +2,7 @@
 ghost use mathlib.Core.Path.{_≡_};
 ghost use Prim.Native.Nat.{min};
 ghost use lib.ListN.{length};
-ghost use Rattle.printed.specs.Printing.{placed, endOf, octetDigits, unitDigits};
+ghost use Rattle.printed.specs.Printing.{placed, endOf, octetDigits, unitDigits, distance};
 
 // n, or the room where that is less.
 fn least(n: usize, room: usize) -> usize
@@ -58,4 +58,14 @@ pub fn put_units(out: &mut [u8], at: usize, units: &[u16]) -> usize
         i += 1;
     }
     end
+}
+
+// How far a number is from zero: what is printed behind its sign.
+pub fn magnitude(n: i64) -> u64
+    ensures answer { λ r. ⌜ r ≡ distance n ⌝ }
+{
+    if n < 0 {
+        return (-(n + 1)) as u64 + 1;
+    }
+    n as u64
 }

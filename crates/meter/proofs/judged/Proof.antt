@@ -1,30 +1,33 @@
+-- `judged` meets its contract: it judges in the order of the rules, and a sum that passes is its own low 32 bits. Assumes nothing.
+use native.Mathlib.Nat.{mod-eq-of-lt}
+use native.Mathlib.Omega.{arith}
 use borrow.Author.Needs.{needs}
-use borrow.Author.Tests.{lt-ltb, le-ltb, eq-eqb, ne-eqb}
+use borrow.Author.Tests.{lt-ltb, le-ltb}
 use Rattle.words.specs.Judging.{verdict}
 use Rattle.metered.specs.Inner.{judgedAs}
 use Rattle.meter.proofs.judged.Statement.{statement}
 use Rattle.meter.proofs.judged.Tie as tie
+
+cast-t7 : tie.Need-cast-t7
+cast-t7 c = search needs
 
 refused-requires : tie.Need-refused-requires
 refused-requires c κs = search needs
 
 returns : tie.Need-returns
 unfolding judgedAs verdict
-returns c = simp (eq-eqb _ _ (c .before .if1 .taken), c .refused .ensures)
+returns c = simp (lt-ltb _ _ (c .before .if1 .taken), c .refused .ensures)
 
 refused-requires-2 : tie.Need-refused-requires-2
 refused-requires-2 c κs = search needs
 
 returns-2 : tie.Need-returns-2
 unfolding judgedAs verdict
-returns-2 c = simp (ne-eqb _ _ (c .before .before .if1 .left), lt-ltb _ _ (c .before .if2 .taken), c .refused2 .ensures)
-
-cast-t9 : tie.Need-cast-t9
-cast-t9 c = search needs
+returns-2 c = simp (le-ltb _ _ (c .before .before .if1 .left), lt-ltb _ _ (c .before .if2 .taken), c .refused2 .ensures)
 
 returns-3 : tie.Need-returns-3
 unfolding judgedAs verdict
-returns-3 c = simp (ne-eqb _ _ (c .before .if1 .left), le-ltb _ _ (c .if2 .left))
+returns-3 c = simp (le-ltb _ _ (c .before .if1 .left), le-ltb _ _ (c .if2 .left), mod-eq-of-lt {n = c .before .before .args .sum} {m = 4294967296} (omega (arith, c .if2 .left)))
 
 pub judged-spec : {M : Type 1} → statement M
-judged-spec = tie.close (tie.spec refused-requires returns refused-requires-2 returns-2 cast-t9 returns-3)
+judged-spec = tie.close (tie.spec cast-t7 refused-requires returns refused-requires-2 returns-2 returns-3)
