@@ -38,6 +38,7 @@ static wikuay_reading reading;
 static wikuay_pages_answer paged;
 static wikuay_page_answer built;
 static wikuay_join_answer joined;
+static wikuay_meter_answer keyed;
 static size_t number; /* of the page that is built: the last one */
 static uint32_t service; /* of one message, as the calls name it */
 
@@ -74,7 +75,17 @@ static void ours_run(void) {
   else read = wikuay_read_message(service, given.coding, given.count, given.octets, given.octets_len, units, ROOM_UNITS);
 }
 
+/* Every key of a text, each on the record that the one before it left. */
+static void ours_run_keys(void) {
+  wikuay_meter meter = { WIKUAY_SHORT_MESSAGE, given.writing ? 0 : (uint32_t)given.length };
+  for (size_t i = 0; i < given.units; i++) {
+    keyed = given.writing ? wikuay_unit_added(meter, given.text[i]) : wikuay_unit_taken_back(meter, given.text[given.units - 1 - i]);
+    meter = keyed.meter;
+  }
+}
+
 static call ours_entry(void) {
+  if (given.service == METER) return given.writing ? (call)wikuay_unit_added : (call)wikuay_unit_taken_back;
   if (given.service == BUILT) return (call)wikuay_build_page;
   if (given.service == PAGES) return given.writing ? (call)wikuay_write_pages : (call)wikuay_join_pages;
   return given.writing ? (call)wikuay_write_message : (call)wikuay_read_message;
@@ -113,12 +124,23 @@ static void pages_to_answer(one_answer *got, wikuay_pages_answer paged, const wi
   out_to_answer(got);
 }
 
+/* The same of the last key of a meter. */
+static void key_to_answer(one_answer *got, wikuay_meter_answer keyed) {
+  got->refusal = keyed.refusal;
+  got->position = keyed.position;
+  got->count = keyed.meter.used;
+  got->numbers = (uint32_t)keyed.left;
+  got->coding = (uint8_t)keyed.meter.service;
+  got->written = 0;
+}
+
 static void ours_answer(one_answer *got) {
-  if (is_paged()) pages_to_answer(got, paged, &built, joined);
+  if (given.service == METER) key_to_answer(got, keyed);
+  else if (is_paged()) pages_to_answer(got, paged, &built, joined);
   else to_answer(got, wrote, read);
 }
 
-static const side ours = { "wikuay", nothing_to_load, ours_prepare, ours_run, ours_run_pages, ours_answer };
+static const side ours = { "wikuay", nothing_to_load, ours_prepare, ours_run, ours_run_pages, ours_answer, ours_run_keys };
 
 /* ---- the plain C loop ---- */
 
@@ -127,6 +149,7 @@ static wikuay_read_answer plain_got;
 static wikuay_pages_answer plain_paged;
 static wikuay_page_answer plain_built;
 static wikuay_join_answer plain_joined;
+static wikuay_meter_answer plain_keyed;
 
 static void plain_run_pages(void) {
   if (given.service == BUILT) plain_built = plain_build_page(SEQUENCE, IDENTIFIER, reading, given.text, given.units, number);
@@ -140,12 +163,21 @@ static void plain_run(void) {
   else plain_got = plain_read(service, given.coding, given.count, given.octets, given.octets_len, units, ROOM_UNITS);
 }
 
+static void plain_run_keys(void) {
+  wikuay_meter meter = { WIKUAY_SHORT_MESSAGE, given.writing ? 0 : (uint32_t)given.length };
+  for (size_t i = 0; i < given.units; i++) {
+    plain_keyed = given.writing ? plain_unit_added(meter, given.text[i]) : plain_unit_taken_back(meter, given.text[given.units - 1 - i]);
+    meter = plain_keyed.meter;
+  }
+}
+
 static void plain_result(one_answer *got) {
-  if (is_paged()) pages_to_answer(got, plain_paged, &plain_built, plain_joined);
+  if (given.service == METER) key_to_answer(got, plain_keyed);
+  else if (is_paged()) pages_to_answer(got, plain_paged, &plain_built, plain_joined);
   else to_answer(got, plain_wrote, plain_got);
 }
 
-static const side plain = { "plain", nothing_to_load, ours_prepare, plain_run, plain_run_pages, plain_result };
+static const side plain = { "plain", nothing_to_load, ours_prepare, plain_run, plain_run_pages, plain_result, plain_run_keys };
 
 /* ---- the floors: a copy of the message's octets, and for UCS2 the loop that swaps them ---- */
 
@@ -155,7 +187,7 @@ static uint8_t copied[PAGES_OCTETS];
 static int is_refused(const char *kind) { return strcmp(kind, "refused") == 0 || strcmp(kind, "circumflex") == 0; }
 
 static const char *copy_prepare(const one_case *c) {
-  return is_refused(c->kind) || c->service == BUILT ? "has no octets here" : NULL;
+  return is_refused(c->kind) || c->service == BUILT || c->service == METER ? "has no octets here" : NULL;
 }
 
 static void copy_run(void) { memcpy(copied, given.octets, given.octets_len); }
@@ -168,7 +200,7 @@ static void copy_answer(one_answer *got) {
   }
 }
 
-static const side copy = { "copy", nothing_to_load, copy_prepare, copy_run, copy_run, copy_answer };
+static const side copy = { "copy", nothing_to_load, copy_prepare, copy_run, copy_run, copy_answer, NULL };
 
 static const char *swap_prepare(const one_case *c) {
   return c->alphabet == 2 && c->service == SMS ? NULL : "is for UCS2 in one message";
@@ -184,7 +216,7 @@ static void swap_answer(one_answer *got) {
   out_to_answer(got);
 }
 
-static const side swap = { "swap", nothing_to_load, swap_prepare, swap_run, NULL, swap_answer };
+static const side swap = { "swap", nothing_to_load, swap_prepare, swap_run, NULL, swap_answer, NULL };
 
 /* ---- one case ---- */
 
@@ -198,12 +230,12 @@ static int counts_len = COUNTS;
 static const char *service_name(void) {
   static const char *const names[][2] = {
     { "sms", "sms-ucs2" }, { "page", "" }, { "ussd", "" }, { "pages", "pages-ucs2" }, { "built", "built-ucs2" },
-    { "lettered", "lettered-ucs2" },
+    { "lettered", "lettered-ucs2" }, { "meter", "" },
   };
   return names[given.service][given.alphabet == 2];
 }
 
-static call call_of(const side *s) { return is_paged() ? s->run_pages : s->run; }
+static call call_of(const side *s) { return given.service == METER ? s->run_keys : is_paged() ? s->run_pages : s->run; }
 
 static void run_side(const side *s, one_answer *got) {
   memset(octets, 0xA5, sizeof octets);
@@ -335,7 +367,7 @@ static void make_text(size_t length) {
 /* To read, and to copy: what the library writes for the text. To be joined, the last page comes first. */
 static void write_octets(void) {
   int writing = given.writing;
-  if (given.service == BUILT) return;
+  if (given.service == BUILT || given.service == METER) return;
   given.writing = 1;
   ours_prepare(&given);
   call_of(&ours)();
@@ -364,11 +396,22 @@ static void do_text(const char *kind, size_t most, int all) {
   for (size_t i = 0; all ? i <= most : i < lengths_len; i++) {
     size_t length = all ? i : lengths[i];
     if (length > most || (two && length % 2 != 0) || (two && length == 0)) continue;
-    if ((is_refused(kind) || strcmp(kind, "accent") == 0) && length == 0) continue;
+    if ((is_refused(kind) || strcmp(kind, "accent") == 0 || given.service == METER) && length == 0) continue;
     make_text(length);
     write_octets();
     do_case();
   }
+}
+
+/* The keys of a meter. Without a key there is no call to count. */
+static void do_meter(int all) {
+  given.service = METER;
+  given.alphabet = 0;
+  do_text("letters", 182, all);
+  do_text("accent", 182, all);
+  do_text("extension", 182, all);
+  do_text("euro", 182, all);
+  if (given.writing) do_text("refused", 182, all);
 }
 
 /* One page behind language letters. */
@@ -440,6 +483,9 @@ static void run_unpack(void) { wrote = wikuay_unpack(WIKUAY_USSD, octets, 160, 0
 static void run_count_pages(void) { paged = wikuay_count_pages(reading, given.text, PAGES_UNITS); }
 static wikuay_block_header header;
 static void run_read_header(void) { header = wikuay_read_header(built.block); }
+static void run_new_meter(void) { keyed = wikuay_new_meter(WIKUAY_USSD); }
+static void run_room_left(void) { keyed = wikuay_room_left(keyed.meter); }
+static void run_meter_cleared(void) { keyed = wikuay_meter_cleared(keyed.meter); }
 static void run_old_page(void) { read = wikuay_read_message(WIKUAY_OLD_PAGE, 0, 0, octets, 82, units, ROOM_UNITS); }
 
 static void do_other_calls(void) {
@@ -459,14 +505,18 @@ static void do_other_calls(void) {
     { "wikuay_read_message", "old page, letters", 93, run_old_page, (call)wikuay_read_message },
     { "wikuay_count_pages", "letters", PAGES_UNITS, run_count_pages, (call)wikuay_count_pages },
     { "wikuay_read_header", "a block", 0, run_read_header, (call)wikuay_read_header },
+    { "wikuay_new_meter", "USSD", 0, run_new_meter, (call)wikuay_new_meter },
+    { "wikuay_room_left", "USSD", 0, run_room_left, (call)wikuay_room_left },
+    { "wikuay_meter_cleared", "USSD", 0, run_meter_cleared, (call)wikuay_meter_cleared },
   };
   fprintf(stderr, "bench: the other calls\n");
+  memset(&keyed, 0, sizeof keyed);
   given.kind = "letters";
   make_text(PAGES_UNITS);
   reading = wikuay_plain();
   for (size_t i = 0; i < sizeof others / sizeof others[0]; i++) {
     others[i].run();
-    if (wrote.refusal != 0 || read.refusal != 0 || paged.refusal != 0) {
+    if (wrote.refusal != 0 || read.refusal != 0 || paged.refusal != 0 || keyed.refusal != 0) {
       fprintf(stderr, "bench: %s refuses\n", others[i].name);
       exit(1);
     }
@@ -562,6 +612,7 @@ int main(int words_len, char **words) {
     given.service = SMS;
     do_text("han", 70, all);
     do_lettered(all);
+    do_meter(all);
     do_all_pages(all);
   }
   if (!timing) do_other_calls();

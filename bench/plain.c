@@ -602,3 +602,26 @@ wikuay_join_answer plain_join_pages(const uint8_t *blocks, size_t blocks_len, ui
   wikuay_join_answer a = { 0, (uint32_t)total, 0, used, (uint16_t)(blocks[0] << 8 | blocks[1]), (uint16_t)(blocks[2] << 8 | blocks[3]), reading };
   return a;
 }
+
+/* ---- the meter ---- */
+
+static const uint8_t meter_sizes[4] = { 160, 93, 182, 93 };
+
+static wikuay_meter_answer keyed(wikuay_meter meter, uint16_t unit, int64_t sign) {
+  wikuay_meter_answer a = { 0, 0, 0, meter };
+  if (meter.service > 3) {
+    a.refusal = 8;
+    return a;
+  }
+  unsigned entry = find(unit);
+  int64_t sum = meter.used + (entry & EXTENSION ? 2 : 1) * sign;
+  if (entry == 0) a.refusal = 6;
+  else if (sum < 0 || sum > 65535) a.refusal = 5;
+  else a.meter.used = (uint32_t)sum;
+  a.left = (int64_t)meter_sizes[meter.service] - a.meter.used;
+  return a;
+}
+
+wikuay_meter_answer plain_unit_added(wikuay_meter meter, uint16_t unit) { return keyed(meter, unit, 1); }
+
+wikuay_meter_answer plain_unit_taken_back(wikuay_meter meter, uint16_t unit) { return keyed(meter, unit, -1); }

@@ -16,6 +16,10 @@ wikuay_page_answer plain_build_page(uint16_t sequence, uint16_t identifier, wiku
                                     size_t text_len, size_t number);
 wikuay_join_answer plain_join_pages(const uint8_t *blocks, size_t blocks_len, uint16_t *out, size_t out_len);
 
+/* The keys of a meter, by value. */
+wikuay_meter_answer plain_unit_added(wikuay_meter meter, uint16_t unit);
+wikuay_meter_answer plain_unit_taken_back(wikuay_meter meter, uint16_t unit);
+
 /* The data coding octet of a reading, or -1 where there is none; and what an octet says. */
 int plain_write_coding(uint32_t service, wikuay_reading reading);
 wikuay_reading plain_read_coding(uint32_t service, uint8_t coding);

@@ -5,13 +5,14 @@
 #include <stddef.h>
 #include <stdint.h>
 
-/* PAGES are all pages of a broadcast message, and BUILT its last one alone. LETTERED is one page behind language letters. */
-enum { SMS = 0, PAGE = 1, USSD = 2, PAGES = 3, BUILT = 4, LETTERED = 5 };
+/* PAGES are all pages of a broadcast message, and BUILT its last one alone. LETTERED is one page behind language letters. METER types a text key by
+   key, where it is written, and takes it back key by key, where it is read. */
+enum { SMS = 0, PAGE = 1, USSD = 2, PAGES = 3, BUILT = 4, LETTERED = 5, METER = 6 };
 enum { ROOM_OCTETS = 160, ROOM_UNITS = 182, PAGES_OCTETS = 1320, PAGES_UNITS = 1395, BLOCK = 88 };
 
 typedef struct {
   int writing;                 /* 1 text into octets, 0 octets into text */
-  uint32_t service;            /* SMS .. LETTERED */
+  uint32_t service;            /* SMS .. METER */
   uint8_t alphabet;            /* 0 7-bit, 2 UCS2 */
   const char *kind;            /* letters, extension, euro, refused, circumflex, han */
   size_t length;               /* septets of the text, or its units in UCS2 */
@@ -45,6 +46,8 @@ typedef struct {
   call run_pages;
   /* What came of the call. A part that the side has no word for is left as it stands: it is the library's own. */
   void (*answer)(one_answer *got);
+  /* The keys of a meter, where the side has one. */
+  call run_keys;
 } side;
 
 extern const side peer_libosmocore, peer_gammu, peer_wireshark;

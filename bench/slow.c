@@ -52,6 +52,19 @@ wikuay_join_answer wikuay_join_pages(const uint8_t *blocks, size_t blocks_len, u
   return answer;
 }
 
+/* A key waits longer the more is typed: it does not take the same time. */
+wikuay_meter_answer wikuay_unit_added(wikuay_meter meter, uint16_t unit) {
+  wikuay_meter_answer answer = plain_unit_added(meter, unit);
+  wait(answer.refusal != 0 ? 20000 : 20 * answer.meter.used);
+  return answer;
+}
+
+wikuay_meter_answer wikuay_unit_taken_back(wikuay_meter meter, uint16_t unit) {
+  wikuay_meter_answer answer = plain_unit_taken_back(meter, unit);
+  wait(20 * answer.meter.used);
+  return answer;
+}
+
 static wikuay_answer nothing(void) {
   wikuay_answer answer;
   memset(&answer, 0, sizeof answer);
@@ -77,6 +90,16 @@ wikuay_block_header wikuay_read_header(wikuay_block block) {
   memset(&header, 0, sizeof header);
   return header;
 }
+static wikuay_meter_answer nothing_metered(wikuay_meter meter) {
+  wikuay_meter_answer answer = { 0, 0, 0, meter };
+  return answer;
+}
+wikuay_meter_answer wikuay_new_meter(uint32_t service) {
+  wikuay_meter meter = { service, 0 };
+  return nothing_metered(meter);
+}
+wikuay_meter_answer wikuay_room_left(wikuay_meter meter) { return nothing_metered(meter); }
+wikuay_meter_answer wikuay_meter_cleared(wikuay_meter meter) { return nothing_metered(meter); }
 wikuay_read_answer wikuay_read_coding(uint32_t service, uint8_t coding) { return (void)service, (void)coding, nothing_read(); }
 wikuay_answer wikuay_write_coding(uint32_t service, wikuay_reading reading) { return (void)service, (void)reading, nothing(); }
 wikuay_read_answer wikuay_holds_text(wikuay_reading reading) { return (void)reading, nothing_read(); }

@@ -1,10 +1,10 @@
 // The room left while a text is typed (document 02, W4): one record, which each key changes in place, by a function that takes it and gives it back.
 // A key takes the same time whatever was typed before: no text is kept.
+ghost use mathlib.Core.Bool.{true};
 ghost use mathlib.Core.Path.{_≡_};
 ghost use Prim.Native.Nat.{_≤_};
 ghost use Rattle.metered.specs.Metered.{add, back, clear, newMeter, remains, unitSeptets, keyed};
 ghost use Rattle.metered.specs.Inner.{lessOr, refusedKey, judgedAs};
-use letters::Listed;
 use metered::Keyed;
 use metered::Meter;
 use metered::Pressed;
@@ -75,12 +75,33 @@ pub fn add(meter: &mut Meter, unit: u16) -> Pressed
 fn septets_of(unit: u16) -> u64
     ensures { λ r. ⌜ (r ≡ unitSeptets unit) × (r ≤ 2) ⌝ }
 {
-    let listed = codes::find(unit);
-    match listed {
-        Listed::Unlisted => 0,
-        Listed::Main(_) => 1,
-        Listed::Extension(_) => 2,
+    if is_small(unit) {
+        return 1;
     }
+    counted(unit)
+}
+
+// Whether a unit is a small letter, as most keys are: each is its own code.
+fn is_small(unit: u16) -> bool
+    ensures { λ r. ⌜ (r ≡ true → unitSeptets unit ≡ 1) ⌝ }
+{
+    if unit < 0x61 {
+        return false;
+    }
+    if 0x7a < unit {
+        return false;
+    }
+    true
+}
+
+// The same of any unit, which is encoded as a text of its own: a second caller of the tables would cost every message that is written.
+fn counted(unit: u16) -> u64
+    ensures { λ r. ⌜ (r ≡ unitSeptets unit) × (r ≤ 2) ⌝ }
+{
+    let text = [unit];
+    let mut scrap = [0u8; 1];
+    let told = to_septets::encode(&text, &mut scrap);
+    told.septets as u64
 }
 
 // The septets used less those of a unit; where that is below zero, one more than a sum may be.

@@ -1,31 +1,37 @@
 -- One key by the numbers that the code has: a unit without septets is unlisted, and what is no sum is told as one over 65,535.
 -- Assumes nothing.
 --   added-judged, back-judged, clear-keyed   the three keys, as the code judges them
+--   unit-encoded, small-one, septets-two     a unit's septets, by encoding it alone; a small letter's is one; they are two at most
 --   back-sum, back-below                     a difference of two numbers, not negative and negative
 --   difference-mag                           how large it is at most
 --   sum-none                                 a sum that is not below zero
 --   remains-fits                             the number that a record shows fits 64 bits
 use mathlib.Core.Path.{_≡_, refl, sym, ap, _∙_, subst}
 use mathlib.Core.Bool.{Bool, true, false}
-use mathlib.Core.List.{[], _∷_}
+use mathlib.Core.List.{List, [], _∷_}
 use Prim.Native.Nat.{ℕ, zero, suc, _+_, _-_, _<_, _≤_, _^_, zero-le}
 use native.Mathlib.Decide.{decLe}
 use native.Mathlib.Omega.{arith}
-use lib.Dec.{ltb}
+use lib.Dec.{T, ltb, eqb, eqb→eq}
 use lib.IntN.{ℤ, pos, negsuc, _+ℤ_, _-ℤ_, natAbs}
 use lib.ListN.{length}
 use lib.Signed.{mag}
-use borrow.Author.Tests.{lt-ltb, le-ltb}
+use borrow.Author.Tests.{lt-ltb, le-ltb, ltb-true}
 use mir.Syntax.{w64}
 use mir.Val.{SFits}
+use Rattle.lists.specs.Lists.{firstPlace}
 use Rattle.words.specs.declared.Service.{Service}
 use Rattle.words.specs.declared.Service.the-variants.{ShortMessage, Broadcast, Ussd, OldPage}
 use Rattle.words.specs.Sizes.{mostSeptets}
 use Rattle.words.specs.declared.Refusal.the-variants.{TooLong, Unlisted as UnlistedUnit}
 use Rattle.words.specs.Judging.{when, verdict, settle}
+use Rattle.lists.proofs.Tests.{everyBelow, every-below}
+use Rattle.letters.specs.Tables.{mainTable, among}
 use Rattle.letters.specs.declared.Listed.{Listed}
 use Rattle.letters.specs.declared.Listed.the-variants.{Unlisted, Main, Extension}
-use Rattle.letters.specs.Writing.{listedAs, isUnlisted, septetsFor}
+use Rattle.letters.specs.Writing.{listedAs, isUnlisted, septetsFor, septetsIn, septetsOf, listedIn, listedFront, encodedAs}
+use Rattle.letters.proofs.Texts.{codable-told, codable-snoc}
+use Rattle.letters.proofs.Theorems.{Codable, codable-front, septets-last}
 use Rattle.metered.specs.declared.Meter.{Meter}
 use Rattle.metered.specs.declared.Keyed.{Keyed}
 use Rattle.metered.specs.declared.Pressed.the-variants.{Went}
@@ -75,6 +81,44 @@ unlisted-none : (l : Listed) → isUnlisted l ≡ ltb (length (septetsFor l)) 1
 unlisted-none Unlisted = refl
 unlisted-none (Main code) = refl
 unlisted-none (Extension code) = refl
+
+-- a unit that is encoded as a text of its own
+front-none : (u : ℕ) → isUnlisted (listedAs u) ≡ true → listedFront (u ∷ []) ≡ []
+unfolding listedFront firstPlace
+front-none u e = rw (e, firstPlace) refl
+
+one-codable : (u : ℕ) → isUnlisted (listedAs u) ≡ false → Codable (u ∷ [])
+one-codable u e = codable-snoc [] u (codable-told [] (omega arith)) e
+
+encoded-by : (u : ℕ) (unlisted : Bool) → isUnlisted (listedAs u) ≡ unlisted → length (septetsOf (listedFront (u ∷ []))) ≡ unitSeptets u
+unfolding unitSeptets septetsIn
+encoded-by u true e =
+    let none = ltb-true (length (septetsFor (listedAs u))) 1 (sym (unlisted-none (listedAs u)) ∙ e) in
+    ap (λ (t : List ℕ). length (septetsOf t)) (front-none u e) ∙ omega (arith, none)
+encoded-by u false e =
+    ap (λ (t : List ℕ). length (septetsOf t)) (codable-front (u ∷ []) (one-codable u e)) ∙ ap length (septets-last [] u)
+
+pub unit-encoded : (u : ℕ) → encodedAs (u ∷ []) .septets ≡ unitSeptets u
+unfolding encodedAs
+unit-encoded u = encoded-by u (isUnlisted (listedAs u)) refl
+
+-- the small letters
+small-test : T (everyBelow (λ k. eqb (unitSeptets (0x61 + k)) 1) 26)
+unfolding unitSeptets listedIn among firstPlace mainTable
+small-test = tt
+
+pub small-one : (u : ℕ) → 0x61 ≤ u → u ≤ 0x7a → unitSeptets u ≡ 1
+small-one u h k =
+    subst (λ (n : ℕ). unitSeptets n ≡ 1) (omega (arith, h)) (eqb→eq (unitSeptets (0x61 + (u - 0x61))) 1 (every-below (λ k. eqb (unitSeptets (0x61 + k)) 1) 26 small-test (u - 0x61) (omega (arith, k))))
+
+two-most : (l : Listed) → length (septetsFor l) ≤ 2
+two-most Unlisted = omega arith
+two-most (Main code) = omega arith
+two-most (Extension code) = omega arith
+
+pub septets-two : (u : ℕ) → unitSeptets u ≤ 2
+unfolding unitSeptets
+septets-two u = two-most (listedAs u)
 
 -- a sum that is told as n
 judged : (m : Meter) (unlisted : Bool) (z : ℤ) (n : ℕ) → noSum z ≡ ltb 65535 n → (n ≤ 65535 → z ≡ pos n)
