@@ -17,6 +17,9 @@ FULL = {"sms": 160, "page": 93, "ussd": 182, "pages": 1395, "lettered": 90}
 FULL_UCS2 = 70
 # A page of UCS2 behind language letters is held to the plain loop, and not to the loop that swaps, which has no letters.
 LETTERED_UCS2 = {"lettered-ucs2": 40}
+# The keys of a meter, of a text that takes so many septets: those that are no small letter are encoded as a text of their own, where the plain loop
+# looks into its table.
+KEYS = {"meter": 182}
 # Messages of several pages, all of them and the last one alone: what a page of each holds, septets or units.
 PAGED = {"pages": 93, "pages-ucs2": 41, "built": 93, "built-ucs2": 41}
 MOST_PAGES = 15
@@ -25,7 +28,7 @@ LINEAR = ("letters", "han")
 # How often the plain loop's cost is allowed, where once is not kept: of UCS2 the plain loop is vector code from end to end, and a page built
 # of extension letters pays for the septets of all pages.
 TIMES = {("write", "pages-ucs2"): 1.05, ("write", "built-ucs2"): 1.45, ("read", "pages-ucs2"): 3, ("write", "built"): 1.2,
-         ("write", "lettered-ucs2"): 1.8, ("read", "lettered-ucs2"): 1.2}
+         ("write", "lettered-ucs2"): 1.8, ("read", "lettered-ucs2"): 1.2, ("write", "meter"): 2.4, ("read", "meter"): 2.4}
 # Texts that are refused for their last unit, and the accepted text that the same pass judges: its last unit is listed, and is not its own code.
 REFUSED = ("refused", "circumflex")
 ACCEPTED = "accent"
@@ -80,9 +83,9 @@ def broken_by_figures(rows, timed):
             if not timed:
                 accepted = cost.get((r.direction, r.service, ACCEPTED, r.length, "wikuay"))
                 hold(f"{name}: a refusal against the accepted text", r.cost, accepted)
-        elif (r.service in PAGED or r.service in LETTERED_UCS2) and timed:
+        elif (r.service in PAGED or r.service in LETTERED_UCS2 or r.service in KEYS) and timed:
             continue
-        elif (r.service in FULL or r.service in PAGED or r.service in LETTERED_UCS2) and r.length >= (FROM_ACCEPTED if r.text == ACCEPTED else FROM):
+        elif (r.service in FULL or r.service in PAGED or r.service in LETTERED_UCS2 or r.service in KEYS) and r.length >= (FROM_ACCEPTED if r.text == ACCEPTED else FROM):
             plain = cost.get(key + ("plain",))
             # The spread of a time is not a fault: a tenth is allowed there.
             times = TIMES.get((r.direction, r.service), 1) * (1.1 if timed else 1)
@@ -95,6 +98,12 @@ def broken_by_figures(rows, timed):
             single = cost.get((r.direction, r.service, r.text, PAGED[r.service], "wikuay"))
             if pages > 1 and over == 0:
                 hold(f"{name}: against as many single pages", r.cost, single and pages * single)
+        if not timed and r.service in KEYS and r.text in ("letters", "extension"):
+            # A key takes the same time whatever was typed before: many cost no more than as many first ones.
+            each = 2 if r.text == "extension" else 1
+            first = cost.get((r.direction, r.service, r.text, each, "wikuay"))
+            if r.length > each:
+                hold(f"{name}: against as many first keys", r.cost, first and r.length // each * first)
         if not timed and r.service == "sms-ucs2" and r.length == FULL_UCS2:
             swap = cost.get(key + ("swap",))
             hold(f"{name}: against twice the loop that swaps", r.cost, swap and 2 * swap)
@@ -176,6 +185,11 @@ def self_test():
             for length in (FROM - 2, FROM, full):
                 rows.append(Row(direction, service, "han", length, "wikuay", "same", 9.0 * length, 400))
                 rows.append(Row(direction, service, "han", length, "plain", "same", 9.0 * length / TIMES.get((direction, service), 1), None))
+        for service, full in KEYS.items():
+            for text, each in (("letters", 1), ("extension", 2)):
+                for length in (each, FROM, full):
+                    rows.append(Row(direction, service, text, length, "wikuay", "same", 9.0 * length, 400))
+                    rows.append(Row(direction, service, text, length, "plain", "same", 9.0 * length / TIMES[(direction, service)], None))
         for service, room in PAGED.items():
             for pages in (1, 2, MOST_PAGES):
                 text = "han" if service.endswith("ucs2") else "letters"
@@ -205,6 +219,8 @@ def self_test():
     breaks("plain loop", lambda r: is_ours(r) and r.service in FULL and r.text == "extension" and r.length >= FROM, cost=9.0 * 1395 + 1)
     breaks("a refusal", lambda r: is_ours(r) and r.text in REFUSED, cost=9.0 * 1395 + 1)
     breaks("plain loop", lambda r: is_ours(r) and r.service in LETTERED_UCS2 and r.length >= FROM, cost=9.0 * 1395 + 1)
+    breaks("plain loop", lambda r: is_ours(r) and r.service in KEYS and r.length >= FROM, cost=9.0 * 1395 + 1)
+    breaks("as many first keys", lambda r: is_ours(r) and r.service in KEYS and r.length >= FROM, cost=9.0 * 1395 + 1)
     breaks("loop that swaps", lambda r: is_ours(r) and r.service == "sms-ucs2", cost=8 * FULL_UCS2 + 1)
     for service, room in PAGED.items():
         for pages in (1, 2, MOST_PAGES):

@@ -19,6 +19,7 @@ SERVICES = {
     "built-ucs2": "the last page, UCS2",
     "lettered": "page with letters",
     "lettered-ucs2": "page with letters, UCS2",
+    "meter": "keys of a meter",
 }
 BEGIN, END = "<!-- figures: written by bench/run -->", "<!-- end of figures -->"
 

@@ -3,8 +3,8 @@
 ghost use mathlib.Core.Bool.{true};
 ghost use mathlib.Core.Path.{_≡_};
 ghost use Prim.Native.Nat.{_≤_};
-ghost use Rattle.metered.specs.Metered.{add, back, clear, newMeter, remains, unitSeptets, keyed};
-ghost use Rattle.metered.specs.Inner.{lessOr, refusedKey, judgedAs};
+ghost use Rattle.metered.specs.Metered.{add, back, clear, newMeter, remains, unitSeptets, refusedKey, keyed};
+ghost use Rattle.metered.specs.Inner.{lessOr, judgedAs};
 use metered::Keyed;
 use metered::Meter;
 use metered::Pressed;

@@ -12,8 +12,6 @@ use Rattle.words.specs.declared.Service.the-variants.{ShortMessage, Broadcast, 
 use Rattle.words.specs.Judging.{verdict}
 use Rattle.letters.specs.Tables.{mainTable, extension, among}
 use Rattle.letters.specs.Writing.{listedIn}
-use Rattle.metered.specs.declared.Meter.{Meter}
-use Rattle.metered.specs.declared.Keyed.{Keyed}
 use Rattle.metered.specs.Metered.{Key, add, back, clear, remains, unitSeptets, keyed, pressedNumber}
 
 -- on a record of so many septets the key is answered so, and so many are used then, which shows the number

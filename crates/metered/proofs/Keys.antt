@@ -13,7 +13,7 @@ use Prim.Native.Nat.{ℕ, zero, suc, _+_, _-_, _<_, _≤_, _^_, zero-le}
 use native.Mathlib.Decide.{decLe}
 use native.Mathlib.Omega.{arith}
 use lib.Dec.{T, ltb, eqb, eqb→eq}
-use lib.IntN.{ℤ, pos, negsuc, _+ℤ_, _-ℤ_, natAbs}
+use lib.IntN.{ℤ, pos, negsuc, _-ℤ_, natAbs}
 use lib.ListN.{length}
 use lib.Signed.{mag}
 use borrow.Author.Tests.{lt-ltb, le-ltb, ltb-true}
@@ -33,10 +33,9 @@ use Rattle.letters.specs.Writing.{listedAs, isUnlisted, septetsFor, septetsIn, 
 use Rattle.letters.proofs.Texts.{codable-told, codable-snoc}
 use Rattle.letters.proofs.Theorems.{Codable, codable-front, septets-last}
 use Rattle.metered.specs.declared.Meter.{Meter}
-use Rattle.metered.specs.declared.Keyed.{Keyed}
 use Rattle.metered.specs.declared.Pressed.the-variants.{Went}
-use Rattle.metered.specs.Metered.{Key, add, back, clear, noSum, newMeter, remains, keyed, unitSeptets}
-use Rattle.metered.specs.Inner.{lessOr, refusedKey, judgedAs}
+use Rattle.metered.specs.Metered.{add, back, clear, noSum, newMeter, remains, refusedKey, keyed, unitSeptets}
+use Rattle.metered.specs.Inner.{lessOr, judgedAs}
 
 -- ---- sums
 

@@ -7,17 +7,17 @@
 --   text-codable, sum-most                  == that text has no unlisted unit, and takes 65,535 septets at most
 --   shown-fits-iff, shown-over-iff          == the number is not negative exactly when that text fits the service: when the writer's 5 does not meet it
 use mathlib.Core.Path.{_≡_, refl, sym, ap, _∙_, subst}
-use mathlib.Core.Bool.{Bool, true, false, _||_}
+use mathlib.Core.Bool.{true, false}
 use mathlib.Core.List.{List, [], _∷_, _++_}
 use mathlib.Core.Logic.{_↔_}
-use Prim.Native.Nat.{ℕ, zero, suc, _+_, _-_, _<_, _≤_, zero-le}
+use Prim.Native.Nat.{ℕ, _+_, _-_, _<_, _≤_, zero-le}
 use native.Mathlib.Decide.{decLe}
 use native.Mathlib.Omega.{arith}
 use lib.Dec.{T, ltb, ltb→lt, le→leb}
-use lib.IntN.{ℤ, pos, negsuc, _-ℤ_, natAbs}
+use lib.IntN.{ℤ, pos, _-ℤ_, natAbs}
 use lib.ListN.{length, length-append}
 use lib.Signed.{ltZ, leZ, _≤ℤ_, _<ℤ_}
-use borrow.Author.Tests.{lt-ltb, le-ltb, ltb-true, ltb-false}
+use borrow.Author.Tests.{lt-ltb, ltb-true, ltb-false}
 use Rattle.lists.specs.Lists.{firstPlace}
 use Rattle.words.specs.declared.Service.{Service}
 use Rattle.words.specs.declared.Refusal.{Refusal}
@@ -34,9 +34,8 @@ use Rattle.metered.specs.declared.Meter.{Meter}
 use Rattle.metered.specs.declared.Keyed.{Keyed}
 use Rattle.metered.specs.declared.Pressed.{Pressed}
 use Rattle.metered.specs.declared.Pressed.the-variants.{Went, Refused}
-use Rattle.metered.specs.Metered.{Key, add, back, clear, newMeter, remains, unitSeptets, ofUnlisted, sumAfter, noSum, keyRules, keyed}
+use Rattle.metered.specs.Metered.{Key, add, back, clear, newMeter, remains, unitSeptets, ofUnlisted, sumAfter, noSum, keyRules, refusedKey, keyed}
 use Rattle.metered.specs.Typed.{Called, Follows, Step, Types, lastMeter, lastText}
-use Rattle.metered.specs.Inner.{refusedKey}
 use Rattle.metered.proofs.Keys.{back-sum, back-below, sum-none, clear-keyed}
 
 -- ---- one key

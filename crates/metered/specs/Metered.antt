@@ -10,6 +10,7 @@
 --   sumAfter m k  == the sum that the key would leave
 --   noSum z       == a sum is below zero or above 65,535 septets
 --   keyRules m k  == what refuses a key: 6, 5
+--   refusedKey m  == what a refused key gives: the record as it was
 --   keyed m k     == what a key gives: the record after it, and its answer
 --   pressedNumber, pressedPosition == what an answer reports: the refusal's number and position, and 0 of a key that goes
 use Prim.Native.Nat.{ℕ}
@@ -19,6 +20,7 @@ use lib.IntN.{ℤ, pos, _+ℤ_, _-ℤ_, natAbs}
 use lib.ListN.{length}
 use lib.Signed.{ltZ}
 use Rattle.words.specs.declared.Service.{Service}
+use Rattle.words.specs.declared.Refusal.{Refusal}
 use Rattle.words.specs.declared.Refusal.the-variants.{Unlisted, TooLong}
 use Rattle.words.specs.Refusals.{numberOf, positionOf}
 use Rattle.words.specs.Judging.{Rule, when, verdict, settle, serviceRules}
@@ -63,9 +65,12 @@ keyRules m k =
     ∷ when (noSum (sumAfter m k)) TooLong
     ∷ [])
 
+abbrev pub refusedKey : Meter → Refusal → Keyed
+refusedKey m r = record { meter = m; answer = Refused r }
+
 unfoldable pub keyed : Meter → Key → Keyed
 keyed m k =
-    settle (verdict (keyRules m k)) (λ r. record { meter = m; answer = Refused r })
+    settle (verdict (keyRules m k)) (refusedKey m)
     (record { meter = record { service = m .service; used = natAbs (sumAfter m k) }; answer = Went })
 
 abbrev pub pressedNumber : Pressed → ℕ

@@ -2,7 +2,7 @@
 -- what that record shows; every other answer is a success. A number that names no service is 8.
 -- Assumes nothing.
 --   wikuay-new-meter-refuses, wikuay-room-left-refuses, wikuay-unit-added-refuses, wikuay-unit-taken-back-refuses, wikuay-meter-cleared-refuses
-use mathlib.Core.Path.{_≡_, refl}
+use mathlib.Core.Path.{refl}
 use mathlib.Core.List.{List, [], _∷_}
 use mathlib.Core.Logic.{inl, inr}
 use Prim.Native.Nat.{ℕ}
@@ -17,8 +17,7 @@ use Rattle.words.specs.Services.{namedService, underService}
 use Rattle.metered.specs.declared.Meter.{Meter}
 use Rattle.metered.specs.declared.Keyed.{Keyed}
 use Rattle.metered.specs.declared.Pressed.the-variants.{Went}
-use Rattle.metered.specs.Metered.{Key, add, back, clear, keyRules, keyed}
-use Rattle.metered.specs.Inner.{refusedKey}
+use Rattle.metered.specs.Metered.{Key, add, back, clear, keyRules, refusedKey, keyed}
 use Rattle.wikuay.specs.declared.meters.MeterNumbers.{MeterNumbers}
 use Rattle.wikuay.specs.declared.meters.MeterAnswer.{MeterAnswer}
 use Rattle.wikuay.specs.declared.meters.NamedMeter.the-variants.{Named, Unnamed}

@@ -14,7 +14,7 @@ use lib.Signed.{_<ℤ_}
 use borrow.Author.Tests.{le-ltb}
 use Rattle.words.specs.declared.Service.{Service}
 use Rattle.words.specs.declared.Refusal.the-variants.{Unlisted, TooLong, NoRoom}
-use Rattle.words.specs.Judging.{when, Verdict, refused, accepted, verdict, settle}
+use Rattle.words.specs.Judging.{when, Verdict, verdict, settle}
 use Rattle.words.proofs.Judging.{verdict-accepted-first}
 use Rattle.words.proofs.Rules.{gives, given-iff, accepted-iff}
 use Rattle.coding.specs.declared.Reading.{Reading}

@@ -13,7 +13,7 @@ use Rattle.words.specs.Services.{namedService, underService}
 use Rattle.metered.specs.declared.Meter.{Meter}
 use Rattle.metered.specs.declared.Keyed.{Keyed}
 use Rattle.metered.specs.declared.Pressed.the-variants.{Went}
-use Rattle.metered.specs.Metered.{add, back, clear, newMeter, remains, keyed, pressedNumber, pressedPosition}
+use Rattle.metered.specs.Metered.{add, back, clear, remains, keyed, pressedNumber, pressedPosition}
 use Rattle.wikuay.specs.declared.meters.NamedMeter.{NamedMeter}
 use Rattle.wikuay.specs.declared.meters.NamedMeter.the-variants.{Named, Unnamed}
 use Rattle.wikuay.specs.declared.meters.MeterNumbers.{MeterNumbers}
