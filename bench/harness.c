@@ -403,8 +403,10 @@ static void do_text(const char *kind, size_t most, int all) {
   }
 }
 
-/* The keys of a meter. Without a key there is no call to count. */
+/* The keys of a meter. Without a key there is no call to count, and one count does. */
 static void do_meter(int all) {
+  int counts = counts_len;
+  counts_len = 1;
   given.service = METER;
   given.alphabet = 0;
   do_text("letters", 182, all);
@@ -412,6 +414,7 @@ static void do_meter(int all) {
   do_text("extension", 182, all);
   do_text("euro", 182, all);
   if (given.writing) do_text("refused", 182, all);
+  counts_len = counts;
 }
 
 /* One page behind language letters. */

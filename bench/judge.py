@@ -17,9 +17,11 @@ FULL = {"sms": 160, "page": 93, "ussd": 182, "pages": 1395, "lettered": 90}
 FULL_UCS2 = 70
 # A page of UCS2 behind language letters is held to the plain loop, and not to the loop that swaps, which has no letters.
 LETTERED_UCS2 = {"lettered-ucs2": 40}
-# The keys of a meter, of a text that takes so many septets: those that are no small letter are encoded as a text of their own, where the plain loop
-# looks into its table.
+# The keys of a meter, of a text that takes so many septets, and how often the plain loop's cost is allowed: a key that is no small letter is encoded as a
+# text of its own, where the plain loop looks into its table.
 KEYS = {"meter": 182}
+KEY_TIMES = {"letters": 1.55, "accent": 1.55}
+OTHER_KEYS = 2.5
 # Messages of several pages, all of them and the last one alone: what a page of each holds, septets or units.
 PAGED = {"pages": 93, "pages-ucs2": 41, "built": 93, "built-ucs2": 41}
 MOST_PAGES = 15
@@ -28,7 +30,7 @@ LINEAR = ("letters", "han")
 # How often the plain loop's cost is allowed, where once is not kept: of UCS2 the plain loop is vector code from end to end, and a page built
 # of extension letters pays for the septets of all pages.
 TIMES = {("write", "pages-ucs2"): 1.05, ("write", "built-ucs2"): 1.45, ("read", "pages-ucs2"): 3, ("write", "built"): 1.2,
-         ("write", "lettered-ucs2"): 1.8, ("read", "lettered-ucs2"): 1.2, ("write", "meter"): 2.4, ("read", "meter"): 2.4}
+         ("write", "lettered-ucs2"): 1.8, ("read", "lettered-ucs2"): 1.2}
 # Texts that are refused for their last unit, and the accepted text that the same pass judges: its last unit is listed, and is not its own code.
 REFUSED = ("refused", "circumflex")
 ACCEPTED = "accent"
@@ -89,6 +91,8 @@ def broken_by_figures(rows, timed):
             plain = cost.get(key + ("plain",))
             # The spread of a time is not a fault: a tenth is allowed there.
             times = TIMES.get((r.direction, r.service), 1) * (1.1 if timed else 1)
+            if r.service in KEYS:
+                times = KEY_TIMES.get(r.text, OTHER_KEYS)
             hold(f"{name}: against the plain loop", r.cost, plain and plain * times)
         if not timed and r.text == "letters" and r.length == FULL.get(r.service):
             hold(f"{name}: instructions", r.cost, MOST[r.direction] * r.length // FULL["sms"])
@@ -189,7 +193,7 @@ def self_test():
             for text, each in (("letters", 1), ("extension", 2)):
                 for length in (each, FROM, full):
                     rows.append(Row(direction, service, text, length, "wikuay", "same", 9.0 * length, 400))
-                    rows.append(Row(direction, service, text, length, "plain", "same", 9.0 * length / TIMES[(direction, service)], None))
+                    rows.append(Row(direction, service, text, length, "plain", "same", 9.0 * length / KEY_TIMES.get(text, OTHER_KEYS), None))
         for service, room in PAGED.items():
             for pages in (1, 2, MOST_PAGES):
                 text = "han" if service.endswith("ucs2") else "letters"

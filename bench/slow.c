@@ -55,13 +55,13 @@ wikuay_join_answer wikuay_join_pages(const uint8_t *blocks, size_t blocks_len, u
 /* A key waits longer the more is typed: it does not take the same time. */
 wikuay_meter_answer wikuay_unit_added(wikuay_meter meter, uint16_t unit) {
   wikuay_meter_answer answer = plain_unit_added(meter, unit);
-  wait(answer.refusal != 0 ? 20000 : 20 * answer.meter.used);
+  wait(answer.refusal != 0 ? 2000 : answer.meter.used);
   return answer;
 }
 
 wikuay_meter_answer wikuay_unit_taken_back(wikuay_meter meter, uint16_t unit) {
   wikuay_meter_answer answer = plain_unit_taken_back(meter, unit);
-  wait(20 * answer.meter.used);
+  wait(answer.meter.used);
   return answer;
 }
 
