@@ -71,6 +71,26 @@ pub fn add(meter: &mut Meter, unit: u16) -> Pressed
     after.answer
 }
 
+// `taken_back`, in place.
+pub fn take_back(meter: &mut Meter, unit: u16) -> Pressed
+    ensures answer { λ r. ⌜ r ≡ keyed (now (meter .entry)) (back unit) .answer ⌝ }
+    ensures record { λ _. ⌜ now (meter .exit) ≡ keyed (now (meter .entry)) (back unit) .meter ⌝ }
+{
+    let after = taken_back(*meter, unit);
+    *meter = after.meter;
+    after.answer
+}
+
+// `cleared`, in place.
+pub fn clear(meter: &mut Meter) -> Pressed
+    ensures answer { λ r. ⌜ r ≡ keyed (now (meter .entry)) clear .answer ⌝ }
+    ensures record { λ _. ⌜ now (meter .exit) ≡ keyed (now (meter .entry)) clear .meter ⌝ }
+{
+    let after = cleared(*meter);
+    *meter = after.meter;
+    after.answer
+}
+
 // How many septets a unit takes: none where it is unlisted.
 fn septets_of(unit: u16) -> u64
     ensures { λ r. ⌜ (r ≡ unitSeptets unit) × (r ≤ 2) ⌝ }
@@ -119,6 +139,7 @@ fn judged(meter: Meter, septets: u64, sum: u64) -> Keyed
     ensures { λ r. ⌜ r ≡ judgedAs meter septets sum ⌝ }
 {
     let service = meter.service;
+    // What the key leaves where it goes.
     let next = Meter {
         service: service,
         used: (sum % 4_294_967_296) as u32,
@@ -143,24 +164,4 @@ fn refused(meter: Meter, refusal: Refusal) -> Keyed
         meter: meter,
         answer: Pressed::Refused(refusal),
     }
-}
-
-// `taken_back`, in place.
-pub fn take_back(meter: &mut Meter, unit: u16) -> Pressed
-    ensures answer { λ r. ⌜ r ≡ keyed (now (meter .entry)) (back unit) .answer ⌝ }
-    ensures record { λ _. ⌜ now (meter .exit) ≡ keyed (now (meter .entry)) (back unit) .meter ⌝ }
-{
-    let after = taken_back(*meter, unit);
-    *meter = after.meter;
-    after.answer
-}
-
-// `cleared`, in place.
-pub fn clear(meter: &mut Meter) -> Pressed
-    ensures answer { λ r. ⌜ r ≡ keyed (now (meter .entry)) clear .answer ⌝ }
-    ensures record { λ _. ⌜ now (meter .exit) ≡ keyed (now (meter .entry)) clear .meter ⌝ }
-{
-    let after = cleared(*meter);
-    *meter = after.meter;
-    after.answer
 }
