@@ -4,7 +4,8 @@
 --   shownFor n x      == in numbers, where n is the service's: the answer of a key x, the record after it, and the number that this record shows
 --   unnamedMeter m    == the refusal of a record with no service
 --   namedMeter m      == the record that the numbers m name, if their service is one
---   underMeter m give == what give says of that record, or that refusal
+--   under n none give == what give says of a record that is named, or none
+--   underMeter m give == a call: what give says of the record that is named, in numbers, or that refusal
 use Prim.Native.Nat.{ℕ}
 use lib.IntN.{pos}
 use Rattle.words.specs.declared.Refusal.the-variants.{Unwritable}
