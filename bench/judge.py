@@ -20,7 +20,7 @@ LETTERED_UCS2 = {"lettered-ucs2": 40}
 # The keys of a meter, of a text that takes so many septets, and how often the plain loop's cost is allowed: a key that is no small letter is encoded as a
 # text of its own, where the plain loop looks into its table.
 KEYS = {"meter": 182}
-KEY_TIMES = {"letters": 1.55, "accent": 1.55}
+KEY_TIMES = {"letters": 1.55, "accent": 1.65}
 OTHER_KEYS = 2.5
 # Messages of several pages, all of them and the last one alone: what a page of each holds, septets or units.
 PAGED = {"pages": 93, "pages-ucs2": 41, "built": 93, "built-ucs2": 41}
