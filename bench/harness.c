@@ -403,29 +403,29 @@ static void do_text(const char *kind, size_t most, int all) {
   }
 }
 
+/* The kinds of 7-bit text that every call is given. */
+static void do_kinds(size_t most, int all) {
+  given.alphabet = 0;
+  do_text("letters", most, all);
+  do_text("accent", most, all);
+  do_text("extension", most, all);
+  do_text("euro", most, all);
+  if (given.writing) do_text("refused", most, all);
+}
+
 /* The keys of a meter. Without a key there is no call to count, and one count does. */
 static void do_meter(int all) {
   int counts = counts_len;
   counts_len = 1;
   given.service = METER;
-  given.alphabet = 0;
-  do_text("letters", 182, all);
-  do_text("accent", 182, all);
-  do_text("extension", 182, all);
-  do_text("euro", 182, all);
-  if (given.writing) do_text("refused", 182, all);
+  do_kinds(182, all);
   counts_len = counts;
 }
 
 /* One page behind language letters. */
 static void do_lettered(int all) {
   given.service = LETTERED;
-  given.alphabet = 0;
-  do_text("letters", 90, all);
-  do_text("accent", 90, all);
-  do_text("extension", 90, all);
-  do_text("euro", 90, all);
-  if (given.writing) do_text("refused", 90, all);
+  do_kinds(90, all);
   if (given.writing) do_text("circumflex", 90, all);
   given.alphabet = 2;
   do_text("han", 40, all);
@@ -602,13 +602,8 @@ int main(int words_len, char **words) {
                 : "direction\tservice\ttext\tlength\tunits\tside\tanswer\tinstructions\tstack\n");
   for (given.writing = 1; given.writing >= 0; given.writing--) {
     static const size_t most[] = { 160, 93, 182 };
-    given.alphabet = 0;
     for (given.service = SMS; given.service <= USSD; given.service++) {
-      do_text("letters", most[given.service], all);
-      do_text("accent", most[given.service], all);
-      do_text("extension", most[given.service], all);
-      do_text("euro", most[given.service], all);
-      if (given.writing) do_text("refused", most[given.service], all);
+      do_kinds(most[given.service], all);
       if (given.writing) do_text("circumflex", most[given.service], all);
     }
     given.alphabet = 2;

@@ -49,7 +49,7 @@ static const uint16_t extension_unit[128] = {
   [0x3D] = 0x007E, [0x3E] = 0x005D, [0x40] = 0x007C, [0x65] = 0x20AC,
 };
 
-static const uint8_t most_septets[3] = { 160, 93, 182 };
+static const uint8_t most_septets[4] = { 160, 93, 182, 93 };
 static const uint8_t most_units[3] = { 70, 41, 80 };
 
 static wikuay_answer refused(uint32_t refusal, size_t position) {
@@ -605,8 +605,6 @@ wikuay_join_answer plain_join_pages(const uint8_t *blocks, size_t blocks_len, ui
 
 /* ---- the meter ---- */
 
-static const uint8_t meter_sizes[4] = { 160, 93, 182, 93 };
-
 static wikuay_meter_answer keyed(wikuay_meter meter, uint16_t unit, int64_t sign) {
   wikuay_meter_answer a = { 0, 0, 0, meter };
   if (meter.service > 3) {
@@ -618,7 +616,7 @@ static wikuay_meter_answer keyed(wikuay_meter meter, uint16_t unit, int64_t sign
   if (entry == 0) a.refusal = 6;
   else if (sum < 0 || sum > 65535) a.refusal = 5;
   else a.meter.used = (uint32_t)sum;
-  a.left = (int64_t)meter_sizes[meter.service] - a.meter.used;
+  a.left = (int64_t)most_septets[meter.service] - a.meter.used;
   return a;
 }
 

@@ -326,18 +326,24 @@ static int moved(wikuay_meter_answer a, wikuay_meter m, int64_t septets) {
   return metered(a, 0, sizes[m.service] - sum, m.service, (uint32_t)sum);
 }
 
+/* A key in place leaves the record that it answers. */
+static int left_as(wikuay_meter_answer a, wikuay_meter kept) {
+  return kept.service == a.meter.service && kept.used == a.meter.used;
+}
+
 /* A unit on a record, by the septets that writing it gives. */
 static void pressed(uint32_t service, uint32_t used, uint16_t unit) {
   uint8_t septets[2];
   wikuay_meter meter, kept;
+  wikuay_meter_answer a;
   int64_t count = (int64_t)wikuay_text_to_septets(&unit, 1, septets, 2).written;
   meter.service = service, meter.used = used;
   judge(moved(wikuay_unit_added(meter, unit), meter, count), "wikuay_unit_added, unit", unit);
   judge(moved(wikuay_unit_taken_back(meter, unit), meter, -count), "wikuay_unit_taken_back, unit", unit);
-  kept = meter;
-  judge(moved(wikuay_add_unit(&kept, unit), meter, count), "wikuay_add_unit, unit", unit);
-  kept = meter;
-  judge(moved(wikuay_take_back_unit(&kept, unit), meter, -count), "wikuay_take_back_unit, unit", unit);
+  kept = meter, a = wikuay_add_unit(&kept, unit);
+  judge(moved(a, meter, count) && left_as(a, kept), "wikuay_add_unit, unit", unit);
+  kept = meter, a = wikuay_take_back_unit(&kept, unit);
+  judge(moved(a, meter, -count) && left_as(a, kept), "wikuay_take_back_unit, unit", unit);
 }
 
 /* A record: what it shows, and each kind of unit on it. */
@@ -383,7 +389,7 @@ static void typed(uint32_t service, unsigned long seed) {
     }
     count = wikuay_text_to_septets(text, length, septets, sizeof septets);
     judge(count.refusal == 0 && (a.refusal == 0 || a.refusal == WIKUAY_REFUSED_UNLISTED), "typed, turn", turn);
-    judge(meter.used == a.meter.used && a.left == sizes[service] - (int64_t)count.written, "counted afresh, turn", turn);
+    judge(left_as(a, meter) && a.left == sizes[service] - (int64_t)count.written, "counted afresh, turn", turn);
     if (service == WIKUAY_OLD_PAGE) continue;
     sent = wikuay_write_message(service, wikuay_plain(), text, length, octets, sizeof octets);
     judge((a.left < 0) == (sent.refusal == WIKUAY_REFUSED_TOO_LONG), "typed and written, turn", turn);

@@ -3,9 +3,8 @@
 --   added-judged, back-judged, clear-keyed   the three keys, as the code judges them
 --   unit-encoded, small-one, septets-two     a unit's septets, by encoding it alone; a small letter's is one; they are two at most
 --   back-sum, back-below                     a difference of two numbers, not negative and negative
---   difference-mag                           how large it is at most
 --   sum-none                                 a sum that is not below zero
---   remains-fits                             the number that a record shows fits 64 bits
+--   size-small, remains-fits                 a service's size and the number that a record shows fit 64 bits with a sign
 use mathlib.Core.Path.{_≡_, refl, sym, ap, _∙_, subst}
 use mathlib.Core.Bool.{Bool, true, false}
 use mathlib.Core.List.{List, [], _∷_}
@@ -48,7 +47,7 @@ back-below a zero h = absurd (omega (arith, h))
 back-below a (suc n) h = rw (lt-ltb a (suc n) h) refl
 
 -- its size, by which a width holds it
-pub difference-mag : (a n b : ℕ) → a < b → n < b → mag (pos a -ℤ pos n) < b
+difference-mag : (a n b : ℕ) → a < b → n < b → mag (pos a -ℤ pos n) < b
 difference-mag a n b h k =
     elim (decLe n a) [
       | yes l ↦ subst (λ (z : ℤ). mag z < b) (sym (back-sum a n l)) (omega (arith, h))
