@@ -401,7 +401,8 @@ wikuay_pages_answer wikuay_write_pages(uint16_t sequence, uint16_t identifier, w
 wikuay_join_answer wikuay_join_pages(const uint8_t *blocks, size_t blocks_len, uint16_t *out, size_t out_len);
 
 /*
- * A meter for a service, with nothing typed: the number to show is the service's size in septets of 7-bit text.
+ * A meter for a service, with nothing typed: the number to show is the service's size in septets of 7-bit text, from
+ * which language letters in front of a page take nothing.
  * Refuses: 8 unknown service.
  */
 wikuay_meter_answer wikuay_new_meter(uint32_t service);

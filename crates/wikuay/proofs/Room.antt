@@ -1,6 +1,6 @@
 -- The room left and the writer: the number of a meter is below zero exactly where the whole writer refuses the text that was typed with 5.
 -- Assumes nothing.
---   writer-over-iff == of the text of any keys, under every reading of 7-bit text that is written under the service
+--   writer-over-iff == of the text of any keys, under every reading of 7-bit text without the prefix mark that is written under the service
 use mathlib.Core.Path.{_≡_, refl, sym, ap, _∙_}
 use mathlib.Core.Bool.{true, false}
 use mathlib.Core.List.{List, [], _∷_, _++_}
