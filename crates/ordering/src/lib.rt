@@ -5,9 +5,9 @@ ghost use Prim.Native.Nat.{_<_};
 ghost use lib.Dec.{eqb};
 ghost use lib.ListN.{getD};
 ghost use Rattle.lists.specs.Lists.{numbersFrom};
+ghost use Rattle.filling.specs.Numbered.{lacks, someOf};
 ghost use Rattle.pages.specs.Blocks.{headerOf};
-ghost use Rattle.pages.specs.Written.{lacksPage};
-ghost use Rattle.pages.specs.Joined.{someOf, sameOctets, ofOneMessage};
+ghost use Rattle.pages.specs.Joined.{sameOctets, ofOneMessage};
 ghost use Rattle.pages.specs.Ordered.{orderOf};
 ghost use Rattle.pages.specs.Inner.{wrongOrder};
 use pages::Order;
@@ -66,7 +66,7 @@ fn number_in(block: [u8; 88]) -> usize
 
 // Whether a block is of the message of the first one, and its number is from 1 to the total.
 fn belongs(first: [u8; 88], block: [u8; 88]) -> bool
-    ensures { λ r. ⌜ r ≡ (ofOneMessage first block && not (lacksPage (headerOf block .total) (headerOf block .number))) ⌝ }
+    ensures { λ r. ⌜ r ≡ (ofOneMessage first block && not (lacks (headerOf block .total) (headerOf block .number))) ⌝ }
 {
     let of = blocks::read_header(first);
     let head = blocks::read_header(block);

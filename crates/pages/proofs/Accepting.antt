@@ -6,11 +6,10 @@
 --   write-accepts, write-accepted   write_pages, exactly where the pages are PagesStorable
 --   join-accepts, join-accepted     join_pages, exactly where the blocks are PagesJoinable
 --   count-verdict, build-verdict, write-verdict, join-verdict   the verdict that each answer tells
---   lacks-none, none-lacks   a message lacks page k exactly where k is not 1 to its pages
 --   coding-back          the coding octet that is written reads as the reading
 --   blocks-as-length     all pages take 88 octets each
 use mathlib.Core.Path.{_≡_, refl, ap, _∙_, sym, subst}
-use mathlib.Core.Bool.{Bool, true, false, not, _||_}
+use mathlib.Core.Bool.{not}
 use mathlib.Core.List.{List, [], _∷_, _++_}
 use Prim.Native.Nat.{ℕ, _*_, _%_, _≤_, _<_}
 use native.Mathlib.Omega.{arith}
@@ -20,6 +19,8 @@ use borrow.Author.Tests.{le-ltb, ltb-false, eq-eqb, ne-eqb, eqb-true, eqb-false,
 use Rattle.words.specs.declared.Service.the-variants.{Broadcast}
 use Rattle.words.specs.declared.Refusal.the-variants.{WrongLength, TooLong, Unlisted, NoRoom, WrongPages}
 use Rattle.lists.specs.Lists.{laid}
+use Rattle.filling.specs.Numbered.{lacks}
+use Rattle.filling.proofs.Placing.{lacks-none, none-lacks}
 use Rattle.words.specs.Judging.{when, Verdict, refused, accepted, verdict}
 use Rattle.words.proofs.Judging.{accepted-rule, accepted-parts, accepted-both, settle-told, settle-given}
 use Rattle.coding.specs.declared.Reading.{Reading}
@@ -42,7 +43,7 @@ use Rattle.pages.specs.declared.PagesWritten.the-variants as written
 use Rattle.pages.specs.declared.Joined.{Joined}
 use Rattle.pages.specs.declared.Joined.the-variants as joined
 use Rattle.pages.specs.Parts.{mostPages}
-use Rattle.pages.specs.Written.{readingPages, readingContent, blockAs, blocksAs, sizeRules, countRules, countAnswers, lacksPage, buildRules, builtAs, pagesRules, pagesAnswers, pagesLeaves}
+use Rattle.pages.specs.Written.{readingPages, readingContent, blockAs, blocksAs, sizeRules, countRules, countAnswers, buildRules, builtAs, pagesRules, pagesAnswers, pagesLeaves}
 use Rattle.pages.specs.Joined.{headerAt, totalAt, wrongPages, joinedText, joinedReading, pageRules, joinRules, joinAnswers, joinLeaves}
 use Rattle.pages.specs.Messages.{PagesWritable, PageBuildable, PagesStorable, PagesJoinable}
 use Rattle.pages.proofs.Blocks.{blocks-length}
@@ -124,22 +125,11 @@ module _ (r : Reading) (t : List ℕ) where
 
 -- ---- building one page
 
-pub lacks-none : (total k : ℕ) → 1 ≤ k → k ≤ total → lacksPage total k ≡ false
-lacks-none total k some most = simp (ne-eqb k 0 (omega arith), le-ltb total k most)
-
-pub none-lacks : (total k : ℕ) → lacksPage total k ≡ false → (1 ≤ k) × (k ≤ total)
-none-lacks total k e = go (eqb k 0) refl (ltb total k) refl e
-  where
-    go : (a : Bool) → eqb k 0 ≡ a → (b : Bool) → ltb total k ≡ b → a || b ≡ false → (1 ≤ k) × (k ≤ total)
-    go false p false q e = let some : k ≡ 0 → ⊥ = eqb-false k 0 p in (omega arith, ltb-false total k q)
-    go false p true q e = let z : _≡_ {A = ℕ} 0 1 = cc in absurd (omega arith)
-    go true p b q e = let z : _≡_ {A = ℕ} 0 1 = cc in absurd (omega arith)
-
 module _ (sequence identifier : ℕ) (r : Reading) (t : List ℕ) (k : ℕ) where
   build-rules-accept : PageBuildable r t k → verdict (buildRules r t k) ≡ accepted
   unfolding buildRules verdict
   build-rules-accept w =
-      accepted-both (countRules r t) (when (lacksPage (readingPages r t) k) WrongPages ∷ []) (rules-accept r t (w .writable)) (simp (lacks-none (readingPages r t) k (w .some) (w .most)))
+      accepted-both (countRules r t) (when (lacks (readingPages r t) k) WrongPages ∷ []) (rules-accept r t (w .writable)) (simp (lacks-none (readingPages r t) k (w .some) (w .most)))
 
   pub build-accepts : PageBuildable r t k
       → (builtAs sequence identifier r t k .answer ≡ counted.Pages (readingPages r t)) × (builtAs sequence identifier r t k .block ≡ blockAs sequence identifier r t k)
@@ -149,8 +139,8 @@ module _ (sequence identifier : ℕ) (r : Reading) (t : List ℕ) (k : ℕ) wher
   pub build-accepted : (n : ℕ) → builtAs sequence identifier r t k .answer ≡ counted.Pages n → PageBuildable r t k
   unfolding buildRules
   build-accepted n e =
-      let v = accepted-parts (countRules r t) (when (lacksPage (readingPages r t) k) WrongPages ∷ []) (build-verdict sequence identifier r t k (counted.Pages n) (sym e)) in
-      let ten = accepted-rule (lacksPage (readingPages r t) k) WrongPages [] (v .1) in
+      let v = accepted-parts (countRules r t) (when (lacks (readingPages r t) k) WrongPages ∷ []) (build-verdict sequence identifier r t k (counted.Pages n) (sym e)) in
+      let ten = accepted-rule (lacks (readingPages r t) k) WrongPages [] (v .1) in
       let l = none-lacks (readingPages r t) k (ten .0) in
       record { writable = rules-accepted r t (v .0); some = l .0; most = l .1 }
 

@@ -16,16 +16,17 @@ use native.Mathlib.Omega.{arith}
 use lib.ListN.{length, take, drop, length-append}
 use lib.Seq.{take-at, drop-append-add}
 use Rattle.lists.proofs.Bits.{bits-number}
+use Rattle.filling.specs.Filling.{partAt}
+use Rattle.filling.proofs.Parts.{part-length}
 use Rattle.stream.specs.Ucs2.{unitPage}
 use Rattle.stream.proofs.UnitOctets.{unit-octets-length}
 use Rattle.stream.proofs.Pages.{unit-page-length}
 use Rattle.stream.proofs.Theorems.{page-octets-length}
 use Rattle.pages.specs.declared.Header.{Header}
 use Rattle.pages.specs.Blocks.{headerOf, textIn, blockOf}
-use Rattle.pages.specs.Parts.{pageRoom, partAt, pageText}
+use Rattle.pages.specs.Parts.{pageRoom, pageText}
 use Rattle.pages.specs.Written.{pageBlock, blocksFrom}
 use Rattle.pages.specs.Joined.{blockCount, blockAt}
-use Rattle.pages.proofs.Parts.{part-length}
 
 -- ---- one block
 

@@ -16,6 +16,8 @@ use native.Mathlib.Omega.{arith}
 use lib.ListN.{length, drop, replicate}
 use Rattle.lists.specs.Lists.{laid}
 use Rattle.lists.proofs.Below.{Below, below-take, below-drop}
+use Rattle.filling.specs.Filling.{partAt, partsFrom}
+use Rattle.filling.proofs.Parts.{part-length, parts-all}
 use Rattle.letters.proofs.Theorems.{septets-below}
 use Rattle.stream.specs.Stream.{packed, unpacked}
 use Rattle.stream.specs.UssdPacking.{cr}
@@ -26,10 +28,10 @@ use Rattle.stream.proofs.UnitOctets.{octet-units-unit-octets}
 use Rattle.stream.proofs.Pages.{replicate-drop, over-length, page-length, page-below}
 pub use Rattle.lettered.proofs.Texts.{closed-text, closed-content}
 use Rattle.pages.specs.Blocks.{textIn}
-use Rattle.pages.specs.Parts.{pageRoom, contentOf, partAt, pageText}
+use Rattle.pages.specs.Parts.{pageRoom, contentOf, pageText}
 use Rattle.pages.specs.Joined.{blockAt, placeOf, pageContent, joinedFrom}
-use Rattle.pages.specs.Messages.{partsFrom, filledTo}
-use Rattle.pages.proofs.Parts.{part-length, part-filled, parts-all}
+use Rattle.pages.specs.Messages.{filledTo}
+use Rattle.pages.proofs.Parts.{part-filled}
 
 -- ---- one page
 

@@ -23,6 +23,8 @@ use borrow.Author.Tests.{le-ltb}
 use Rattle.words.specs.declared.Service.the-variants.{Broadcast}
 use Rattle.lists.specs.Lists.{laid}
 use Rattle.lists.specs.Closing.{withoutClosing}
+use Rattle.filling.specs.Filling.{partAt}
+use Rattle.filling.proofs.Parts.{fewest-some, fewest-hold}
 use Rattle.words.proofs.Numbers.{number-above-0}
 use Rattle.coding.specs.declared.Reading.{Reading}
 use Rattle.coding.specs.OctetRead.{readUnder}
@@ -43,12 +45,12 @@ use Rattle.pages.specs.declared.PagesWritten.{PagesWritten}
 use Rattle.pages.specs.declared.PagesWritten.the-variants as written
 use Rattle.pages.specs.declared.Joined.the-variants as joined
 use Rattle.pages.specs.Blocks.{blockOf}
-use Rattle.pages.specs.Parts.{pageRoom, contentOf, partAt, pageText}
+use Rattle.pages.specs.Parts.{pageRoom, contentOf, pageText}
 use Rattle.pages.specs.Written.{readingPages, readingContent, blockAs, blocksFrom, blocksAs, builtAs, pagesAnswers}
 use Rattle.pages.specs.Joined.{headerAt, totalAt, blockAt, joinedFrom, joinedContent, joinedReading, joinedText, joinAnswers}
 use Rattle.pages.specs.Reports.{pagesNumber, pagesWritten}
 use Rattle.pages.specs.Messages.{filledTo, PagesWritable, PagesStorable, Sends, sentBlocks, Reordered, Joins, ReadOnce}
-use Rattle.pages.proofs.Parts.{pages-some, pages-hold, part-filled}
+use Rattle.pages.proofs.Parts.{part-filled}
 use Rattle.pages.proofs.Blocks.{page-text-length}
 use Rattle.pages.proofs.Accepting.{coding-back, build-accepts, write-accepts, write-accepted, join-accepts, join-accepted, blocks-as-length}
 use Rattle.pages.proofs.Placing.{right-read-once, read-once-right}
@@ -78,7 +80,7 @@ module _ (sequence identifier : ℕ) (r : Reading) (t out : List ℕ) (a : Sends
 module _ (sequence identifier : ℕ) (r : Reading) (t : List ℕ) (w : PagesWritable r t) where
   module _ (o : List ℕ) (x : Reordered (blocksAs sequence identifier r t) o) where
     first : headerAt o 0 ≡ record { sequence = sequence; identifier = identifier; coding = smallest Broadcast r; total = readingPages r t; number = 1 + x .from 0 }
-    first = order-header sequence identifier r t (w .sized) o x 0 (pages-some _ _)
+    first = order-header sequence identifier r t (w .sized) o x 0 (fewest-some _ _ _)
 
     reads : joinedReading o ≡ r
     reads = ap (λ (h : Header). readUnder Broadcast (h .coding)) first ∙ coding-back r t w .1
@@ -100,7 +102,7 @@ module _ (sequence identifier : ℕ) (r : Reading) (t : List ℕ) (w : PagesWrit
         join-accepts o back
         record {
           whole = ap (λ (n : ℕ). n % 88) long ∙ omega arith;
-          some = omega (arith, pages-some (pageRoom (isUcs2 (r .alphabet))) (length (readingContent r t)));
+          some = omega (arith, fewest-some 15 (pageRoom (isUcs2 (r .alphabet))) (length (readingContent r t)));
           holds = subst HoldsText (sym reads) (w .holds);
           right = read-once-right o (any-order-read-once sequence identifier r t (w .sized) o x);
           fits = subst (λ (l : List ℕ). length l ≤ length back) (sym held) room;
@@ -147,8 +149,8 @@ same-blocks : (sequence identifier : ℕ) (r : Reading) (t u : List ℕ) → Pag
 unfolding blocksAs
 same-blocks sequence identifier r t u v w n e =
     let ucs2 : Bool = isUcs2 (r .alphabet) in
-    let size : length (readingContent r t) ≤ pageRoom ucs2 * readingPages r u = subst (λ (k : ℕ). length (readingContent r t) ≤ pageRoom ucs2 * k) n (pages-hold (pageRoom ucs2) (length (readingContent r t)) (v .sized)) in
-    let other : length (readingContent r u) ≤ pageRoom ucs2 * readingPages r u = pages-hold (pageRoom ucs2) (length (readingContent r u)) (w .sized) in
+    let size : length (readingContent r t) ≤ pageRoom ucs2 * readingPages r u = subst (λ (k : ℕ). length (readingContent r t) ≤ pageRoom ucs2 * k) n (fewest-hold 15 (pageRoom ucs2) (length (readingContent r t)) (v .sized)) in
+    let other : length (readingContent r u) ≤ pageRoom ucs2 * readingPages r u = fewest-hold 15 (pageRoom ucs2) (length (readingContent r u)) (w .sized) in
     ap (λ (k : ℕ). blocksFrom sequence identifier (smallest Broadcast r) k ucs2 (readingContent r t) 1 k) n
     ∙ same-pages sequence identifier (smallest Broadcast r) (readingPages r u) ucs2 (readingContent r t) (readingContent r u) (readingPages r u) size other
     (over-same (pageRoom ucs2 * readingPages r u) cr (readingContent r t) (readingContent r u) size other (closed-content ucs2 t u (v .codable) (w .codable) e))
@@ -232,7 +234,7 @@ module _ (sequence identifier : ℕ) (r : Reading) (t out : List ℕ) (a : Sends
   one-page-fits : readingPages r t ≡ 1 → length (readingContent r t) ≤ pageRoom (isUcs2 (r .alphabet))
   one-page-fits one =
       let room : ℕ = pageRoom (isUcs2 (r .alphabet)) in
-      let size : length (readingContent r t) ≤ room * 1 = subst (λ (k : ℕ). length (readingContent r t) ≤ room * k) one (pages-hold room (length (readingContent r t)) (sent-writable sequence identifier r t out a .sized)) in
+      let size : length (readingContent r t) ≤ room * 1 = subst (λ (k : ℕ). length (readingContent r t) ≤ room * k) one (fewest-hold 15 room (length (readingContent r t)) (sent-writable sequence identifier r t out a .sized)) in
       omega arith
 
   -- what is written as pages has no prefix mark, so as one page it has no letters in front

@@ -9,6 +9,8 @@ use Rattle.lists.specs.Bits.{bitOf, gather, bitsOf}
 use Rattle.lists.specs.Lists.{firstPlace, laid, numbersFrom}
 use Rattle.lists.specs.Closing.{beforeKept, withoutClosing}
 use Rattle.words.specs.Judging.{verdict}
+use Rattle.filling.specs.Filling.{fewest, partAt}
+use Rattle.filling.specs.Numbered.{placeAmong, missingAmong, repeatedAmong, misnumberedAmong, differingAmong, wrongAmong}
 use Rattle.lists.proofs.Tests.{both}
 use Rattle.coding.specs.declared.Reading.{Reading}
 use Rattle.coding.specs.Readings.{unmentioned, reservedReading, plainIn, withCompressed}
@@ -25,9 +27,8 @@ use Rattle.stream.specs.Pages.{page, pageOctets}
 use Rattle.stream.specs.Ucs2.{unitOctets, octetUnits, unitPage}
 use Rattle.demands.proofs.Cases.{same}
 use Rattle.pages.specs.Blocks.{headerOf, blockOf}
-use Rattle.pages.specs.Parts.{pagesHolding, partAt}
 use Rattle.pages.specs.Written.{blockAs, blocksFrom, blocksAs, sizeRules, countRules, countAnswers, buildRules, builtAs, pagesRules, pagesAnswers}
-use Rattle.pages.specs.Joined.{blockAt, headerAt, placeOf, missing, repeated, misnumbered, ofOneMessage, differing, wrongPages, joinedFrom, joinedContent, pageRules, joinRules, joinAnswers, joinLeaves}
+use Rattle.pages.specs.Joined.{blockAt, headerAt, ofOneMessage, wrongPages, joinedFrom, joinedContent, pageRules, joinRules, joinAnswers, joinLeaves}
 use Rattle.pages.specs.Reports.{countedNumber, countedPages, pagesNumber, joinNumber, joinWritten}
 
 -- counting gives this number and so many pages; building page k gives this number and these first octets; writing into so much room gives this number;
@@ -117,5 +118,5 @@ cases =
     ∷ []
 
 pub cases-hold : T (allHold cases)
-unfolding allHold holds cases block ucs2 euro closing chinese verdict countAnswers countRules builtAs buildRules pagesAnswers pagesRules blockAs blocksAs blocksFrom blockOf headerOf partAt pageOctets page laid packed unpacked streamBit cut octetsFor unitOctets unitPage octetUnits codingRules aloneRules anyLetter textRules sizeRules smallest firstPlace numbersFrom readPage bitsOf gather bitOf generalReading lastReading classIn septetsIn listedIn among beside mainTable extension unitIn textIn afterEscapeIn escapedIn pagesHolding withoutClosing beforeKept blockAt headerAt placeOf missing repeated misnumbered ofOneMessage differing wrongPages joinedFrom joinedContent pageRules joinRules joinAnswers joinLeaves
+unfolding allHold holds cases block ucs2 euro closing chinese verdict countAnswers countRules builtAs buildRules pagesAnswers pagesRules blockAs blocksAs blocksFrom blockOf headerOf partAt pageOctets page laid packed unpacked streamBit cut octetsFor unitOctets unitPage octetUnits codingRules aloneRules anyLetter textRules sizeRules smallest firstPlace numbersFrom readPage bitsOf gather bitOf generalReading lastReading classIn septetsIn listedIn among beside mainTable extension unitIn textIn afterEscapeIn escapedIn fewest withoutClosing beforeKept blockAt headerAt placeAmong missingAmong repeatedAmong misnumberedAmong differingAmong wrongAmong ofOneMessage wrongPages joinedFrom joinedContent pageRules joinRules joinAnswers joinLeaves
 cases-hold = tt

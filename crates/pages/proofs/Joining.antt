@@ -1,10 +1,10 @@
 -- Joining: where nothing is wrong with the pages each has its place among the blocks, so that what they hold is laid one page after the other.
 -- Assumes nothing.
 use mathlib.Core.Path.{_≡_, refl, ap, ap₂, _∙_, sym, subst}
-use mathlib.Core.Bool.{Bool, true, false, cond, _||_}
-use mathlib.Core.List.{List, [], _++_, map, append-assoc, append-nil}
+use mathlib.Core.Bool.{Bool, true, false, cond}
+use mathlib.Core.List.{List, [], _++_, append-assoc, append-nil}
 use Prim.Native.Nat.{ℕ, zero, suc, _+_, _-_, _*_, _/_, _%_, _≤_, _<_}
-use native.Mathlib.Nat.{not-suc-le-zero, le-of-suc-le-suc, add-zero, zero-add, add-comm, mul-suc, mul-zero}
+use native.Mathlib.Nat.{add-zero, add-comm, mul-suc, mul-zero}
 use native.Mathlib.Numerals.{add-one}
 use native.Mathlib.Omega.{arith}
 use lib.Dec.{lit<, leb, eqb}
@@ -17,12 +17,14 @@ use Rattle.words.specs.declared.Refusal.the-variants.{WrongLength, WrongPages}
 use Rattle.words.specs.declared.Filled.the-variants as filled
 use Rattle.words.specs.Judging.{Verdict, refused, accepted, verdict, settle}
 use Rattle.words.proofs.Judging.{verdict-refused-first, verdict-accepted-first}
-use Rattle.lists.specs.Lists.{firstWide, laid, numbersFrom}
+use Rattle.lists.specs.Lists.{firstWide, laid}
 use Rattle.lists.specs.Closing.{withoutClosing}
 use Rattle.lists.proofs.Below.{Below, below-drop, below-take, below-append}
 use Rattle.lists.proofs.Closing.{closing-front, closing-length}
 use Rattle.lists.proofs.Places.{place-none}
 use Rattle.lists.proofs.Laid.{laid-length, laid-then}
+use Rattle.lists.proofs.Tests.{or-right}
+use Rattle.filling.proofs.Table.{table-there}
 use Rattle.stream.specs.Stream.{unpacked}
 use Rattle.stream.specs.Ucs2.{octetUnits}
 use Rattle.stream.specs.ArrayCalls.{allRules, allLeaves}
@@ -44,10 +46,10 @@ use Rattle.pages.specs.declared.Order.{Order}
 use Rattle.pages.specs.declared.Joined.the-variants as joined
 use Rattle.pages.specs.Blocks.{headerOf, textIn}
 use Rattle.pages.specs.Parts.{pageRoom}
-use Rattle.pages.specs.Joined.{blockCount, blockAt, headerAt, totalAt, placeOf, wrongPages, pageContent, joinedFrom, joinedContent, joinedText, joinedReading, pageRules, joinRules, joinAnswers, joinLeaves}
-use Rattle.pages.specs.Ordered.{blockOrZeros, tableEntry, tableOf, noOrder, orderOf}
-use Rattle.pages.proofs.Placing.{right-read-once}
-use Rattle.pages.proofs.Table.{total-small, block-here}
+use Rattle.pages.specs.Joined.{blockCount, blockAt, headerAt, numberAt, totalAt, placeOf, wrongPages, pageContent, joinedFrom, joinedContent, joinedText, joinedReading, pageRules, joinRules, joinAnswers, joinLeaves}
+use Rattle.pages.specs.Ordered.{blockOrZeros, tableOf, noOrder, orderOf}
+use Rattle.pages.proofs.Placing.{right-read-once, total-small}
+use Rattle.pages.proofs.Table.{block-here}
 use Rattle.pages.specs.Inner.{textJoins, textJoinLeaves, heldJoins, heldJoinLeaves, joinedAs, Places}
 
 -- ---- a page that is there
@@ -232,31 +234,15 @@ units-join o out s right e = simp (right, e) (refl, refl)
 
 -- ---- the order of the pages
 
-neither-right : (a b : Bool) → (a || b) ≡ false → b ≡ false
-neither-right true b e = let z : _≡_ {A = ℕ} 0 1 = cc in absurd (omega arith)
-neither-right false b e = e
-
-mapped-at : (f : ℕ → ℕ) (i n k : ℕ) → k < n → getD (map f (numbersFrom i n)) k 0 ≡ f (i + k)
-unfolding numbersFrom
-mapped-at f i zero k h = absurd (not-suc-le-zero h)
-mapped-at f i (suc n) zero h = ap f (sym (add-zero i))
-mapped-at f i (suc n) (suc k) h =
-    let next : suc i + k ≡ i + suc k = omega arith in
-    mapped-at f (suc i) n k (le-of-suc-le-suc h) ∙ ap f next
-
 table-places : (o : List ℕ) → wrongPages o ≡ false → Places o (tableOf o)
-unfolding tableOf
-table-places o right k low high =
-    mapped-at (tableEntry o) 0 16 k (omega (arith, total-below o 0))
-    ∙ ap (tableEntry o) (zero-add k)
-    ∙ simp (lt-ltb (placeOf o k) (blockCount o) (page-placed o k right low high))
+table-places o right k low high = table-there (numberAt o) (blockCount o) 16 k (omega (arith, total-below o 0)) (page-placed o k right low high)
 
 module _ (o : List ℕ) (r : Order) (e : r ≡ orderOf o) where
   pub order-right : r .right ≡ true → (wrongPages o ≡ false) × Places o (r .places)
   unfolding orderOf noOrder
   order-right t =
       let none : noOrder o ≡ false = not-true (noOrder o) (sym (ap (λ (x : Order). x .right) e) ∙ t) in
-      let right : wrongPages o ≡ false = neither-right (eqb (blockCount o) 0) (wrongPages o) none in
+      let right : wrongPages o ≡ false = or-right (eqb (blockCount o) 0) (wrongPages o) none in
       let table : r .places ≡ tableOf o = ap (λ (x : Order). x .places) e ∙ ap (λ (b : Bool). cond b (replicate 16 0) (tableOf o)) none in
       (right, subst (Places o) (sym table) (table-places o right))
 

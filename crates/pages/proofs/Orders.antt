@@ -6,7 +6,7 @@
 --   any-order-read-once  of the blocks in any order each is read once and none is left out
 --   any-order-content    what they hold, joined, is the content and CRs behind it
 --   in-order             the blocks as they were written are in an order
-use mathlib.Core.Path.{_≡_, refl, sym, ap, ap₂, _∙_, subst}
+use mathlib.Core.Path.{_≡_, refl, sym, ap, ap₂, _∙_}
 use mathlib.Core.Bool.{true}
 use mathlib.Core.List.{List}
 use Prim.Native.Nat.{ℕ, _+_, _-_, _*_, _/_, _%_, _≤_, _<_}
@@ -14,6 +14,9 @@ use native.Mathlib.Omega.{arith}
 use lib.ListN.{length}
 use Rattle.lists.specs.Bits.{bitsOf}
 use Rattle.lists.proofs.Bits.{bits-number}
+use Rattle.filling.specs.Filling.{partAt}
+use Rattle.filling.proofs.Parts.{fewest-some, fewest-hold}
+use Rattle.filling.proofs.Placing.{numbered-one-to-one}
 use borrow.Author.Tests.{eq-eqb}
 use Rattle.words.specs.declared.Service.the-variants.{Broadcast}
 use Rattle.coding.specs.declared.Reading.{Reading}
@@ -21,13 +24,11 @@ use Rattle.coding.specs.OctetWritten.{smallest}
 use Rattle.coding.specs.Holding.{isUcs2}
 use Rattle.pages.specs.declared.Header.{Header}
 use Rattle.pages.specs.Blocks.{headerOf, textIn, blockOf}
-use Rattle.pages.specs.Parts.{pageRoom, partAt, pageText}
+use Rattle.pages.specs.Parts.{pageRoom, pageText}
 use Rattle.pages.specs.Written.{readingPages, readingContent, blockAs, blocksAs}
-use Rattle.pages.specs.Joined.{blockCount, blockAt, headerAt, numberAt, totalAt, placeOf, ofOneMessage, joinedFrom}
+use Rattle.pages.specs.Joined.{blockCount, blockAt, headerAt, numberAt, totalAt, placeOf, ofOneMessage, alikeAt, joinedFrom}
 use Rattle.pages.specs.Messages.{filledTo, Reordered, ReadOnce}
-use Rattle.pages.proofs.Parts.{pages-some, pages-hold}
 use Rattle.pages.proofs.Blocks.{header-block, text-block, blocks-count, blocks-at}
-use Rattle.pages.proofs.Placing.{place-number, place-first}
 use Rattle.pages.proofs.Contents.{joined-whole, content-below}
 
 -- two blocks whose headers differ in the number alone are of one message
@@ -102,49 +103,35 @@ module _ (sequence identifier : ℕ) (r : Reading) (t : List ℕ) where
         let same : x .from i ≡ x .from j = omega (arith, order-number i h, order-number j k) in
         sym (x .to-from i (omega (arith, written-count))) ∙ ap (x .to) same ∙ x .to-from j (omega (arith, written-count))
 
-    found : (k : ℕ) → 1 ≤ k → k ≤ readingPages r t → placeOf o k < readingPages r t
-    found k some most =
-        let here : k - 1 < blockCount (blocksAs sequence identifier r t) = omega (arith, written-count) in
+    -- the block of page k
+    whose : (k : ℕ) → 1 ≤ k → k ≤ blockCount o → (i : ℕ) × ((i < blockCount o) × (numberAt o i ≡ k))
+    whose k some most =
+        let here : k - 1 < blockCount (blocksAs sequence identifier r t) = omega (arith, written-count, order-count) in
         let place : x .to (k - 1) < readingPages r t = omega (arith, x .to-within (k - 1) here, written-count) in
-        let number : numberAt o (x .to (k - 1)) ≡ k = omega (arith, order-number (x .to (k - 1)) place, x .from-to (k - 1) here) in
-        omega (arith, subst (λ (n : ℕ). placeOf o n ≤ x .to (k - 1)) number (place-first o (x .to (k - 1)) (omega (arith, order-count))))
-
-    found-number : (k : ℕ) → 1 ≤ k → k ≤ readingPages r t → numberAt o (placeOf o k) ≡ k
-    found-number k some most = place-number o k (omega (arith, found k some most, order-count))
+        (x .to (k - 1), (omega (arith, order-count), omega (arith, order-number (x .to (k - 1)) place, x .from-to (k - 1) here)))
 
     pub any-order-read-once : ReadOnce o
     any-order-read-once =
-        let first : totalAt o 0 ≡ readingPages r t = order-total 0 (pages-some _ _) in
-        record {
-          count = order-count ∙ sym first;
-          there = λ k some most. (omega (arith, found k some (omega arith), order-count), found-number k some (omega arith));
-          once = λ i h.
-              let here : i < readingPages r t = omega (arith, order-count) in
-              let number : numberAt o i ≡ 1 + x .from i = order-number i here in
-              let place : placeOf o (numberAt o i) ≤ i = place-first o i h in (
-                omega arith,
-                (
-                  omega (arith, inside i here),
-                  order-once (placeOf o (numberAt o i)) i (omega arith) here (found-number (numberAt o i) (omega arith) (omega (arith, inside i here))),
-                ),
-              );
-          one = λ i h.
-              let here : i < readingPages r t = omega (arith, order-count) in
-              ap₂ ofOneMessage (order-at 0 (pages-some _ _)) (order-at i here) ∙ blocks-one (1 + x .from 0) (1 + x .from i);
-        }
+        let within : (i : ℕ) → i < blockCount o → i < readingPages r t = λ i h. omega (arith, order-count) in
+        numbered-one-to-one (numberAt o) (totalAt o) (alikeAt o) (blockCount o) (order-count ∙ sym (order-total 0 (fewest-some _ _ _)))
+        (λ i h. let number : numberAt o i ≡ 1 + x .from i = order-number i (within i h) in (omega arith, omega (arith, inside i (within i h), order-count)))
+        (λ i j h k e. order-once i j (within i h) (within j k) e)
+        whose
+        (λ i h. ap₂ ofOneMessage (order-at 0 (fewest-some _ _ _)) (order-at i (within i h)) ∙ blocks-one (1 + x .from 0) (1 + x .from i))
 
     -- page k stands in its place
     order-page : (k : ℕ) → 1 ≤ k → k ≤ readingPages r t → blockAt o (placeOf o k) ≡ blockAs sequence identifier r t k
     order-page k some most =
-        let here : placeOf o k < readingPages r t = found k some most in
+        let found = any-order-read-once .there k some (omega (arith, order-total 0 (fewest-some _ _ _))) in
+        let here : placeOf o k < readingPages r t = omega (arith, found .0, order-count) in
         order-at (placeOf o k) here
-        ∙ ap (blockAs sequence identifier r t) (sym (order-number (placeOf o k) here) ∙ found-number k some most)
+        ∙ ap (blockAs sequence identifier r t) (sym (order-number (placeOf o k) here) ∙ found .1)
 
     pub any-order-content : joinedFrom (isUcs2 (r .alphabet)) o 1 (readingPages r t) ≡ filledTo (pageRoom (isUcs2 (r .alphabet)) * readingPages r t) (readingContent r t)
     any-order-content =
         joined-whole (isUcs2 (r .alphabet)) (readingContent r t) (readingPages r t) o
         record {
           septets = content-below (isUcs2 (r .alphabet)) t;
-          holds = pages-hold (pageRoom (isUcs2 (r .alphabet))) (length (readingContent r t)) few;
+          holds = fewest-hold 15 (pageRoom (isUcs2 (r .alphabet))) (length (readingContent r t)) few;
           page = λ k some most. ap textIn (order-page k some most) ∙ block-text k;
         }

@@ -15,6 +15,7 @@ use Rattle.words.specs.declared.Refusal.{Refusal}
 use Rattle.words.specs.declared.Refusal.the-variants.{NoText, Prefixed, Unwritable, WrongPages, NoRoom}
 use Rattle.words.specs.Judging.{Rule, when, refused, verdict}
 use Rattle.words.proofs.Judging.{verdict-refused-first}
+use Rattle.filling.specs.Numbered.{lacks}
 use Rattle.fields.specs.declared.Alphabet.the-variants.{I1}
 use Rattle.coding.specs.declared.Reading.{Reading}
 use Rattle.coding.specs.declared.OctetWritten.the-variants as octet-written
@@ -29,7 +30,7 @@ use Rattle.pages.specs.declared.PagesWritten.the-variants as written
 use Rattle.pages.specs.declared.Joined.the-variants as joined
 use Rattle.pages.specs.Blocks.{blockSize}
 use Rattle.pages.specs.Joined.{headerAt, joinedReading, pageRules, joinRules, joinAnswers}
-use Rattle.pages.specs.Written.{blocksAs, readingPages, lacksPage, sizeRules, countRules, countAnswers, buildRules, builtAs, pagesRules, pagesAnswers}
+use Rattle.pages.specs.Written.{blocksAs, readingPages, sizeRules, countRules, countAnswers, buildRules, builtAs, pagesRules, pagesAnswers}
 
 module _ (r : Reading) (t : List ℕ) where
   -- each of the calls refuses with q
@@ -50,7 +51,7 @@ module _ (r : Reading) (t : List ℕ) where
   by-front q f =
       record {
         count = simp (f (sizeRules (isUcs2 (r .alphabet)) t));
-        build = λ sequence identifier k. simp (ap verdict (behind (when (lacksPage (readingPages r t) k) WrongPages ∷ [])) ∙ f (sizeRules (isUcs2 (r .alphabet)) t ++ (when (lacksPage (readingPages r t) k) WrongPages ∷ [])));
+        build = λ sequence identifier k. simp (ap verdict (behind (when (lacks (readingPages r t) k) WrongPages ∷ [])) ∙ f (sizeRules (isUcs2 (r .alphabet)) t ++ (when (lacks (readingPages r t) k) WrongPages ∷ [])));
         write = λ sequence identifier room. simp (ap verdict (behind (when (ltb room (length (blocksAs sequence identifier r t))) NoRoom ∷ [])) ∙ f (sizeRules (isUcs2 (r .alphabet)) t ++ (when (ltb room (length (blocksAs sequence identifier r t))) NoRoom ∷ [])));
       }
 

@@ -3,20 +3,22 @@
 --   sized-units, sized-septets, sized-unlisted   the verdict on a text by itself: 6, 5
 --   chosen-text, chosen-none, chosen-refused     what stands behind 8, 1, 2, 3
 use mathlib.Core.Path.{_≡_, refl, ap, ap₂, _∙_, sym, subst}
-use mathlib.Core.Bool.{Bool, true, false, cond, _||_}
+use mathlib.Core.Bool.{Bool, true, false, cond}
 use mathlib.Core.List.{List, [], _∷_, _++_}
-use mathlib.Core.Logic.{inl, inr}
-use Prim.Native.Nat.{ℕ, suc, _+_, _-_, _*_, _/_, _%_, _≤_, _<_}
-use native.Mathlib.Nat.{div-add-mod', mod-lt, mul-comm, mul-zero, mul-suc, mul-le-mul-left, lt-of-mul-lt-mul-left}
+use mathlib.Core.Logic.{inl}
+use Prim.Native.Nat.{ℕ, _+_, _-_, _*_, _/_, _≤_, _<_}
+use native.Mathlib.Nat.{mul-comm}
 use native.Mathlib.Decide.{decLe}
 use native.Mathlib.Omega.{arith}
-use borrow.Author.Tests.{lt-ltb, le-ltb, ltb-false, eq-eqb}
-use lib.Dec.{ltb, leb, eqb, lit<}
-use lib.ListN.{length, take, drop}
+use borrow.Author.Tests.{lt-ltb, le-ltb, ltb-false}
+use lib.Dec.{ltb, leb, lit<}
+use lib.ListN.{length, take}
 use lib.Seq.{take-all}
 use Rattle.lists.specs.Lists.{firstPlace, laid}
 use Rattle.lists.proofs.Below.{Below}
 use Rattle.lists.proofs.Laid.{laid-length, laid-full}
+use Rattle.filling.specs.Numbered.{lacks}
+use Rattle.filling.proofs.Parts.{fewest-over, fewest-are, fewest-sum, fewest-some, fewest-hold, fewest-least, fewest-begun}
 use Rattle.letters.proofs.Theorems.{septets-below}
 use Rattle.words.specs.declared.Service.{Service}
 use Rattle.words.specs.declared.Refusal.{Refusal}
@@ -45,11 +47,10 @@ use Rattle.pages.specs.declared.Counted.{Counted}
 use Rattle.pages.specs.declared.Counted.the-variants.{Pages, Refused}
 use Rattle.pages.specs.declared.Built.{Built}
 use Rattle.pages.specs.declared.PagesWritten.the-variants as written
-use Rattle.pages.specs.Parts.{mostPages, pageRoom, contentOf, pagesHolding, pagesOf, partAt}
-use Rattle.pages.specs.Written.{pageBlock, blocksFrom, lacksPage, sizeRules}
+use Rattle.pages.specs.Parts.{mostPages, pageRoom, contentOf, pagesHolding, pagesOf}
+use Rattle.pages.specs.Written.{pageBlock, blocksFrom, sizeRules}
 use Rattle.pages.specs.Inner.{sizedAs, pagedAs, refusedBuilt, textBuilt, textBlocks, textPages, textPagesLeaves}
 use Rattle.pages.proofs.Blocks.{blocks-length}
-use Rattle.pages.proofs.Parts.{pages-over, pages-are, pages-some, pages-hold, pages-least}
 
 -- ---- how many pages
 
@@ -59,22 +60,16 @@ paged-are room n k e h = simp (e, le-ltb 15 k h)
 
 pub paged-over : (room n : ℕ) → 15 * room < n → pagedAs room n ≡ Refused TooLong
 unfolding pagedAs verdict
-paged-over room n h = simp (lt-ltb 15 (pagesHolding room n) (pages-over room n .1 (omega (arith, mul-comm room 15))))
+paged-over room n h = simp (lt-ltb 15 (pagesHolding room n) (fewest-over 15 room n (omega arith) .1 (omega (arith, mul-comm room 15))))
 
 pub paged-none : (room n : ℕ) → n ≡ 0 → pagedAs room n ≡ Pages 1
-paged-none room n e = paged-are room n 1 (pages-are room n 1 (omega arith) (omega arith) (omega arith) (inl refl)) (omega arith)
+paged-none room n e = paged-are room n 1 (fewest-are 15 room n 1 (omega arith) (omega arith) (omega arith) (inl refl)) (omega arith)
 
--- (n + room - 1) / room, the sum rounded up
 pub paged-some : (room n : ℕ) → 0 < room → 0 < n → n ≤ 15 * room → pagedAs room n ≡ Pages ((n + room - 1) / room)
 paged-some room n some few fits =
-    let k : ℕ = (n + room - 1) / room in
-    let parts : k * room + (n + room - 1) % room ≡ n + room - 1 = div-add-mod' (n + room - 1) room in
-    let left : (n + room - 1) % room < room = mod-lt (n + room - 1) some in
-    let turned : k * room ≡ room * k = mul-comm k room in
-    let most : k < 16 = lt-of-mul-lt-mul-left room {m = k} {n = 16} (omega arith) in
-    let least : 0 < k = lt-of-mul-lt-mul-left room {m = 0} {n = k} (omega (arith, mul-zero room)) in
-    let last : room * k ≡ room * (k - 1) + room = ap (λ (j : ℕ). room * j) (omega arith) ∙ mul-suc room (k - 1) in
-    paged-are room n k (pages-are room n k (omega arith) (omega arith) (omega arith) (inr (omega arith))) (omega arith)
+    let fit : n ≤ room * 15 = omega (arith, mul-comm room 15) in
+    let sum : pagesHolding room n ≡ (n + room - 1) / room = fewest-sum 15 room n some few fit in
+    paged-are room n ((n + room - 1) / room) sum (omega (arith, sum, fewest-least 15 room n 15 (omega arith) fit))
 
 -- ---- the verdict on a text by itself
 
@@ -171,29 +166,17 @@ sized-fits ucs2 t total e =
     let pages : total ≡ pagesHolding room n = cc in
     let first = accepted-rule (notCodable ucs2 t) (Unlisted (firstUnlisted t)) (when (ltb mostPages (pagesOf ucs2 t)) TooLong ∷ []) v in
     let most : pagesHolding room n ≤ 15 = ltb-false mostPages (pagesHolding room n) (accepted-rule (ltb mostPages (pagesOf ucs2 t)) TooLong [] (first .1) .0) in
-    let some : 1 ≤ pagesHolding room n = pages-some room n in
-    let holds : n ≤ room * pagesHolding room n = pages-hold room n most in
+    let some : 1 ≤ pagesHolding room n = fewest-some 15 room n in
+    let holds : n ≤ room * pagesHolding room n = fewest-hold 15 room n most in
     record {
       pages = pages;
       some = omega arith;
       most = omega arith;
       holds = subst (λ (k : ℕ). n ≤ room * k) (sym pages) holds;
-      full = subst (λ (k : ℕ). room * k ≤ n + room) (sym pages) (last-begun room n (pagesHolding room n) some (pages-least room n));
+      full = subst (λ (k : ℕ). room * k ≤ n + room) (sym pages) (fewest-begun 15 room n);
       codable = first .0;
       allowed = v;
     }
-  where
-    -- the last page begins within the text
-    last-begun : (room n k : ℕ) → 1 ≤ k → ((j : ℕ) → 1 ≤ j → n ≤ room * j → k ≤ j) → room * k ≤ n + room
-    last-begun room n k some least =
-        let last : room * k ≡ room * (k - 1) + room = ap (λ (j : ℕ). room * j) (omega arith) ∙ mul-suc room (k - 1) in
-        elim (decLe (room * (k - 1)) n) [
-          | yes h ↦ omega arith
-          | no h ↦ elim (decLe 2 k) [
-            | yes two ↦ absurd (omega (arith, least (k - 1) (omega arith) (omega arith)))
-            | no one ↦ let zero : room * (k - 1) ≡ 0 = ap (λ (j : ℕ). room * j) (omega arith) ∙ mul-zero room in absurd (omega arith)
-          ]
-        ]
 
 -- what a pass over a text that fits leaves: its first n septets in the array are the text's content, and of UCS2 the units are
 pub record Gathered (ucs2 : Bool) (t : List ℕ) (total n : ℕ) (a : List ℕ) : Type 0 where
@@ -219,11 +202,6 @@ gathered false t n z a long en ea total e =
 
 -- ---- the text of one page
 
--- the part of page k, counted from 0
-pub part-from : (room k : ℕ) (s : List ℕ) → take room (drop (room * k) s) ≡ partAt room s (k + 1)
-unfolding partAt
-part-from room k s = let same : k ≡ k + 1 - 1 = omega arith in ap (λ (j : ℕ). take room (drop (room * j) s)) same
-
 -- a page that is packed into 82 octets
 pub page-left : (s out : List ℕ) → length s ≤ 93 → Below 128 s → length out ≡ 82 → pageLeaves (page s) out ≡ pageOctets s
 unfolding pageLeaves pageRules pageOctets verdict
@@ -231,10 +209,6 @@ page-left s out few low long =
     let full : length (packed (page s)) ≡ 82 = page-octets-length s few in
     simp (le-ltb (firstPlace (leb 128) (page s)) (length (page s)) (low-narrow (page s) (page-below s low)), le-ltb (length out) (length (packed (page s))) (omega arith))
     (laid-full (packed (page s)) out (omega arith))
-
--- page k begins within a text whose pages but the last are full
-pub page-within : (room k total n : ℕ) → k < total → room * total ≤ n + room → room * k ≤ n
-page-within room k total n less full = omega (arith, mul-suc room k, mul-le-mul-left {m = suc k} {n = total} room less)
 
 -- ---- one page and all pages of a text by itself
 
@@ -246,7 +220,7 @@ module _ (sequence identifier coding : ℕ) (ucs2 : Bool) (t : List ℕ) where
   pub built-refused : (k : ℕ) (q : Refusal) → Refused q ≡ sizedAs ucs2 t → refusedBuilt q ≡ textBuilt sequence identifier coding ucs2 t k
   unfolding textBuilt
   built-refused k q e =
-      let x : List Rule = when (lacksPage (pagesOf ucs2 t) k) WrongPages ∷ [] in
+      let x : List Rule = when (lacks (pagesOf ucs2 t) k) WrongPages ∷ [] in
       let v : verdict (sizeRules ucs2 t ++ x) ≡ refused q = verdict-refused-first (sizeRules ucs2 t) x q (sized-refused ucs2 t q e) in
       sym (simp v)
 
@@ -263,20 +237,20 @@ module _ (sequence identifier coding : ℕ) (ucs2 : Bool) (t : List ℕ) where
   made total k = record { answer = Pages total; block = pageBlock sequence identifier coding total ucs2 (contentOf ucs2 t) k }
 
   module _ (total : ℕ) (f : Fits ucs2 t total) where
-    pub built-lacks : (k : ℕ) → lacksPage total k ≡ true → refusedBuilt WrongPages ≡ textBuilt sequence identifier coding ucs2 t k
+    pub built-lacks : (k : ℕ) → lacks total k ≡ true → refusedBuilt WrongPages ≡ textBuilt sequence identifier coding ucs2 t k
     unfolding textBuilt verdict
     built-lacks k e =
-        let x : List Rule = when (lacksPage (pagesOf ucs2 t) k) WrongPages ∷ [] in
-        let lacks : lacksPage (pagesOf ucs2 t) k ≡ true = ap (λ (n : ℕ). lacksPage n k) (sym (f .pages)) ∙ e in
-        let v : verdict (sizeRules ucs2 t ++ x) ≡ refused WrongPages = verdict-accepted-first (sizeRules ucs2 t) x (f .allowed) ∙ simp lacks in
+        let x : List Rule = when (lacks (pagesOf ucs2 t) k) WrongPages ∷ [] in
+        let absent : lacks (pagesOf ucs2 t) k ≡ true = ap (λ (n : ℕ). lacks n k) (sym (f .pages)) ∙ e in
+        let v : verdict (sizeRules ucs2 t ++ x) ≡ refused WrongPages = verdict-accepted-first (sizeRules ucs2 t) x (f .allowed) ∙ simp absent in
         sym (simp v)
 
-    pub built-page : (k : ℕ) → lacksPage total k ≡ false
+    pub built-page : (k : ℕ) → lacks total k ≡ false
         → made total k ≡ textBuilt sequence identifier coding ucs2 t k
     unfolding textBuilt verdict
     built-page k e =
-        let x : List Rule = when (lacksPage (pagesOf ucs2 t) k) WrongPages ∷ [] in
-        let there : lacksPage (pagesOf ucs2 t) k ≡ false = ap (λ (n : ℕ). lacksPage n k) (sym (f .pages)) ∙ e in
+        let x : List Rule = when (lacks (pagesOf ucs2 t) k) WrongPages ∷ [] in
+        let there : lacks (pagesOf ucs2 t) k ≡ false = ap (λ (n : ℕ). lacks n k) (sym (f .pages)) ∙ e in
         let v : verdict (sizeRules ucs2 t ++ x) ≡ accepted = verdict-accepted-first (sizeRules ucs2 t) x (f .allowed) ∙ simp there in
         ap (λ (n : ℕ). made n k) (f .pages) ∙ sym (simp v)
 
@@ -307,15 +281,3 @@ module _ (sequence identifier coding : ℕ) (ucs2 : Bool) (t : List ℕ) where
         let room : ltb (length out) (length b) ≡ false = le-ltb (length out) (length b) (omega (arith, long)) in
         let v : verdict (sizeRules ucs2 t ++ x) ≡ accepted = verdict-accepted-first (sizeRules ucs2 t) x (f .allowed) ∙ simp room in
         (ap₂ written.Done (sym long) (f .pages) ∙ sym (simp v), ap (λ (l : List ℕ). laid l out) blocks-by ∙ sym (simp v))
-
--- ---- which pages a message has, as the code asks
-
-pub lacks-none-first : (total k : ℕ) → k ≡ 0 → lacksPage total k ≡ true
-lacks-none-first total k e = simp (eq-eqb k 0 e)
-
-pub lacks-above : (total k : ℕ) → ltb total k ≡ true → lacksPage total k ≡ true
-lacks-above total k e = simp e (either (eqb k 0))
-  where
-    either : (b : Bool) → (b || true) ≡ true
-    either true = refl
-    either false = refl

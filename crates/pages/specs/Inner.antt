@@ -20,6 +20,7 @@ use Rattle.words.specs.declared.Refusal.{Refusal}
 use Rattle.words.specs.declared.Refusal.the-variants.{TooLong, NoRoom, WrongPages}
 use Rattle.words.specs.Judging.{when, verdict, settle}
 use Rattle.lists.specs.Lists.{laid}
+use Rattle.filling.specs.Numbered.{lacks}
 use Rattle.words.specs.declared.Service.the-variants.{Broadcast}
 use Rattle.coding.specs.declared.Reading.{Reading}
 use Rattle.coding.specs.Holding.{isUcs2, textRules}
@@ -34,7 +35,7 @@ use Rattle.pages.specs.declared.Order.{Order}
 use Rattle.pages.specs.declared.Joined.the-variants as joined
 use Rattle.pages.specs.Blocks.{blockSize}
 use Rattle.pages.specs.Parts.{mostPages, contentOf, pagesHolding, pagesOf}
-use Rattle.pages.specs.Written.{sizeRules, lacksPage, pageBlock, blocksFrom}
+use Rattle.pages.specs.Written.{sizeRules, pageBlock, blocksFrom}
 use Rattle.pages.specs.Joined.{totalAt, placeOf, joinedText, pageRules}
 
 unfoldable pub sizedAs : Bool → List ℕ → Counted
@@ -50,10 +51,10 @@ unfoldable pub textBuilt : ℕ → ℕ → ℕ → Bool → List ℕ → ℕ →
 textBuilt sequence identifier coding ucs2 units k =
     record {
       answer =
-          settle (verdict (sizeRules ucs2 units ++ (when (lacksPage (pagesOf ucs2 units) k) WrongPages ∷ []))) counted.Refused
+          settle (verdict (sizeRules ucs2 units ++ (when (lacks (pagesOf ucs2 units) k) WrongPages ∷ []))) counted.Refused
           (counted.Pages (pagesOf ucs2 units));
       block =
-          settle (verdict (sizeRules ucs2 units ++ (when (lacksPage (pagesOf ucs2 units) k) WrongPages ∷ []))) (λ q. replicate blockSize 0)
+          settle (verdict (sizeRules ucs2 units ++ (when (lacks (pagesOf ucs2 units) k) WrongPages ∷ []))) (λ q. replicate blockSize 0)
           (pageBlock sequence identifier coding (pagesOf ucs2 units) ucs2 (contentOf ucs2 units) k);
     }
 

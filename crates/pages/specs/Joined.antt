@@ -6,15 +6,15 @@
 --   blockCount o, blockAt o i, headerAt o i == how many blocks the octets o are; block i of them, from 0, and its header
 --   numberAt o i, totalAt o i == the number and the total in block i
 --   placeOf o k        == the first block with the number k, and how many blocks there are where none has it
---   someOf f s         == f holds of some of the numbers s
 --   ofOneMessage a b   == the blocks a and b have the same octets 1 to 5 and the same total
---   missing, repeated, misnumbered, differing, wrongPages == what is wrong with the pages, one by one and together
+--   alikeAt o i        == block i is of the message of the first one
+--   wrongPages o       == a page is missing, repeated or misnumbered, or a block differs from the first (wrongAmong)
 --   pageContent ucs2 t == what a page with the octets t holds: units of UCS2, or septets
 --   joinedFrom ucs2 o k n == what n pages from page k on hold, in their order
 --   joinedContent, joinedText == what all pages hold, closing CRs dropped; the text of it
 --   joinRules, joinAnswers, joinLeaves == what join_pages refuses, answers and leaves in the lent buffer
 use Prim.Native.Nat.{ℕ, zero, suc, _*_, _/_, _%_}
-use mathlib.Core.Bool.{Bool, true, not, cond, _&&_, _||_}
+use mathlib.Core.Bool.{Bool, true, not, cond, _&&_}
 use mathlib.Core.List.{List, [], _∷_, _++_}
 use lib.Dec.{ltb, eqb}
 use lib.ListN.{length, take, drop, getD}
@@ -22,8 +22,9 @@ use Rattle.words.specs.declared.Service.the-variants.{Broadcast}
 use Rattle.words.specs.declared.Refusal.the-variants.{WrongLength, WrongPages, NoRoom}
 use Rattle.words.specs.Sizes.{mostSeptets}
 use Rattle.words.specs.Judging.{Rule, when, verdict, settle}
-use Rattle.lists.specs.Lists.{firstPlace, laid, numbersFrom}
+use Rattle.lists.specs.Lists.{laid}
 use Rattle.lists.specs.Closing.{withoutClosing}
+use Rattle.filling.specs.Numbered.{placeAmong, wrongAmong}
 use Rattle.coding.specs.declared.Reading.{Reading}
 use Rattle.coding.specs.OctetRead.{readUnder}
 use Rattle.coding.specs.Holding.{isUcs2, textRules}
@@ -35,7 +36,6 @@ use Rattle.pages.specs.declared.Header.{Header}
 use Rattle.pages.specs.declared.Joined.{Joined}
 use Rattle.pages.specs.declared.Joined.the-variants.{Done, Refused}
 use Rattle.pages.specs.Blocks.{blockSize, headerOf, textIn}
-use Rattle.pages.specs.Written.{lacksPage}
 
 abbrev pub blockCount : List ℕ → ℕ
 blockCount o = length o / blockSize
@@ -52,22 +52,8 @@ numberAt o i = headerAt o i .number
 abbrev pub totalAt : List ℕ → ℕ → ℕ
 totalAt o i = headerAt o i .total
 
-unfoldable pub placeOf : List ℕ → ℕ → ℕ
-placeOf o k = firstPlace (λ i. eqb (numberAt o i) k) (numbersFrom 0 (blockCount o))
-
-abbrev pub someOf : (ℕ → Bool) → List ℕ → Bool
-someOf f s = ltb (firstPlace f s) (length s)
-
--- no block has the number of a page
-unfoldable pub missing : List ℕ → Bool
-missing o = someOf (λ k. not (ltb (placeOf o k) (blockCount o))) (numbersFrom 1 (totalAt o 0))
-
--- a block before this one has its number
-unfoldable pub repeated : List ℕ → Bool
-repeated o = someOf (λ i. ltb (placeOf o (numberAt o i)) i) (numbersFrom 0 (blockCount o))
-
-unfoldable pub misnumbered : List ℕ → Bool
-misnumbered o = someOf (λ i. lacksPage (totalAt o i) (numberAt o i)) (numbersFrom 0 (blockCount o))
+abbrev pub placeOf : List ℕ → ℕ → ℕ
+placeOf o k = placeAmong (numberAt o) (blockCount o) k
 
 -- the first n octets of two blocks are the same
 abbrev pub sameOctets : ℕ → List ℕ → List ℕ → Bool
@@ -78,11 +64,11 @@ sameOctets (suc n) a b = eqb (getD a n 0) (getD b n 0) && sameOctets n a b
 unfoldable pub ofOneMessage : List ℕ → List ℕ → Bool
 ofOneMessage a b = sameOctets 5 a b && eqb (headerOf a .total) (headerOf b .total)
 
-unfoldable pub differing : List ℕ → Bool
-differing o = someOf (λ i. not (ofOneMessage (blockAt o 0) (blockAt o i))) (numbersFrom 0 (blockCount o))
+abbrev pub alikeAt : List ℕ → ℕ → Bool
+alikeAt o i = ofOneMessage (blockAt o 0) (blockAt o i)
 
 unfoldable pub wrongPages : List ℕ → Bool
-wrongPages o = missing o || (repeated o || (misnumbered o || differing o))
+wrongPages o = wrongAmong (numberAt o) (totalAt o) (alikeAt o) (blockCount o)
 
 abbrev pub pageContent : Bool → List ℕ → List ℕ
 pageContent ucs2 t = cond ucs2 (octetUnits t) (unpacked (mostSeptets Broadcast) t)

@@ -1,6 +1,5 @@
 -- The words in which the theorems of messages of several pages are stated (proofs/Demands.antt).
 -- Own rule: none. Cited by those theorems alone, and by no contract. Assumes nothing.
---   partsFrom room s k n == what n pages from page k on hold of s, one after the other
 --   filledTo n s     == s filled up with CR to the length n
 --   countNumbers, buildNumbers, writeNumbers, joinNumbers == the numbers that each call can refuse with, in their order
 --   oneOf n ns       == n is one of the numbers ns
@@ -14,13 +13,14 @@
 --                       header and the pages, and leaves the text at the front of the buffer
 --   ReadOnce o       == of the blocks o each is read once and none is left out: page k is read from block `placeOf o k`, and block i is page `numberAt o i`
 use mathlib.Core.Path.{_≡_}
-use mathlib.Core.Bool.{Bool, true, false, _||_}
-use mathlib.Core.List.{List, [], _∷_, _++_}
-use Prim.Native.Nat.{ℕ, zero, suc, _*_, _%_, _<_, _≤_}
+use mathlib.Core.Bool.{Bool, false, _||_}
+use mathlib.Core.List.{List, [], _∷_}
+use Prim.Native.Nat.{ℕ, _*_, _%_, _<_, _≤_}
 use lib.Dec.{eqb}
 use lib.ListN.{length, take, replicate}
 use Rattle.words.specs.declared.Service.the-variants.{Broadcast}
 use Rattle.lists.specs.Lists.{laid}
+use Rattle.filling.specs.Numbered.{OneToOne}
 use Rattle.coding.specs.declared.Reading.{Reading}
 use Rattle.coding.specs.declared.OctetRead.the-variants as octet-read
 use Rattle.coding.specs.OctetRead.{octetReads}
@@ -30,14 +30,10 @@ use Rattle.demands.specs.MessageWritten.{notCodable}
 use Rattle.demands.specs.Demands.{HoldsText}
 use Rattle.pages.specs.declared.Joined.the-variants.{Done}
 use Rattle.pages.specs.Blocks.{blockSize}
-use Rattle.pages.specs.Parts.{mostPages, partAt}
+use Rattle.pages.specs.Parts.{mostPages}
 use Rattle.pages.specs.Written.{readingPages, pagesAnswers, pagesLeaves}
-use Rattle.pages.specs.Joined.{blockCount, blockAt, numberAt, totalAt, placeOf, ofOneMessage, wrongPages, joinedReading, joinedText, joinAnswers, joinLeaves}
+use Rattle.pages.specs.Joined.{blockCount, blockAt, numberAt, totalAt, alikeAt, wrongPages, joinedReading, joinedText, joinAnswers, joinLeaves}
 use Rattle.pages.specs.Reports.{pagesNumber, pagesWritten}
-
-unfoldable pub partsFrom : ℕ → List ℕ → ℕ → ℕ → List ℕ
-partsFrom room s k zero = []
-partsFrom room s k (suc n) = partAt room s k ++ partsFrom room s (suc k) n
 
 abbrev pub filledTo : ℕ → List ℕ → List ℕ
 filledTo n s = laid s (replicate n cr)
@@ -105,8 +101,5 @@ Joins o r sequence identifier pages text =
     (out : List ℕ) → length text ≤ length out
     → (joinAnswers o (length out) ≡ Done (length text) r sequence identifier pages) × (joinLeaves o out ≡ laid text out)
 
-pub record ReadOnce (o : List ℕ) : Type 0 where
-  pub count : blockCount o ≡ totalAt o 0
-  pub there : (k : ℕ) → 1 ≤ k → k ≤ totalAt o 0 → (placeOf o k < blockCount o) × (numberAt o (placeOf o k) ≡ k)
-  pub once : (i : ℕ) → i < blockCount o → (1 ≤ numberAt o i) × ((numberAt o i ≤ totalAt o 0) × (placeOf o (numberAt o i) ≡ i))
-  pub one : (i : ℕ) → i < blockCount o → ofOneMessage (blockAt o 0) (blockAt o i) ≡ true
+abbrev pub ReadOnce : List ℕ → Type 0
+ReadOnce o = OneToOne (numberAt o) (totalAt o) (alikeAt o) (blockCount o)

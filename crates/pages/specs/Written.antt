@@ -5,18 +5,19 @@
 --                                identifier, coding octet, total
 --   blockAs, blocksAs         == page k, and all pages, of a text that is written as the reading r
 --   countRules, countAnswers  == what refuses to count the pages of a text, and what count_pages answers
---   lacksPage total k         == a message of so many pages lacks page k
 --   buildRules, builtAs       == the same of build_page
 --   pagesRules, pagesAnswers, pagesLeaves == the same of write_pages, and what it leaves in the lent buffer
 use Prim.Native.Nat.{ℕ, zero, suc}
-use mathlib.Core.Bool.{Bool, _||_}
+use mathlib.Core.Bool.{Bool}
 use mathlib.Core.List.{List, [], _∷_, _++_}
-use lib.Dec.{ltb, eqb}
+use lib.Dec.{ltb}
 use lib.ListN.{length, replicate}
 use Rattle.words.specs.declared.Service.the-variants.{Broadcast}
 use Rattle.words.specs.declared.Refusal.the-variants.{Unlisted, TooLong, NoRoom, WrongPages}
 use Rattle.words.specs.Judging.{Rule, when, verdict, settle}
 use Rattle.lists.specs.Lists.{laid}
+use Rattle.filling.specs.Filling.{partAt}
+use Rattle.filling.specs.Numbered.{lacks}
 use Rattle.coding.specs.declared.Reading.{Reading}
 use Rattle.coding.specs.OctetWritten.{smallest}
 use Rattle.coding.specs.LanguageLetters.{codingRules}
@@ -30,7 +31,7 @@ use Rattle.pages.specs.declared.Built.{Built}
 use Rattle.pages.specs.declared.PagesWritten.{PagesWritten}
 use Rattle.pages.specs.declared.PagesWritten.the-variants as written
 use Rattle.pages.specs.Blocks.{blockSize, blockOf}
-use Rattle.pages.specs.Parts.{mostPages, pageRoom, contentOf, pagesOf, partAt, pageText}
+use Rattle.pages.specs.Parts.{mostPages, pageRoom, contentOf, pagesOf, pageText}
 
 abbrev pub pageBlock : ℕ → ℕ → ℕ → ℕ → Bool → List ℕ → ℕ → List ℕ
 pageBlock sequence identifier coding total ucs2 content k =
@@ -69,12 +70,8 @@ countRules r units = codingRules Broadcast r ++ (textRules Broadcast r ++ sizeRu
 unfoldable pub countAnswers : Reading → List ℕ → Counted
 countAnswers r units = settle (verdict (countRules r units)) counted.Refused (counted.Pages (readingPages r units))
 
--- "numbered 0 or above the total"
-abbrev pub lacksPage : ℕ → ℕ → Bool
-lacksPage total k = eqb k 0 || ltb total k
-
 unfoldable pub buildRules : Reading → List ℕ → ℕ → List Rule
-buildRules r units k = countRules r units ++ (when (lacksPage (readingPages r units) k) WrongPages ∷ [])
+buildRules r units k = countRules r units ++ (when (lacks (readingPages r units) k) WrongPages ∷ [])
 
 unfoldable pub builtAs : ℕ → ℕ → Reading → List ℕ → ℕ → Built
 builtAs sequence identifier r units k =

@@ -13,6 +13,7 @@ use Rattle.words.specs.declared.Refusal.{Refusal}
 use Rattle.words.specs.declared.Refusal.the-variants.{NoRoom, WrongPages}
 use Rattle.words.specs.Judging.{Rule, when, Verdict, refused, verdict, settle}
 use Rattle.lists.specs.Lists.{laid}
+use Rattle.filling.specs.Numbered.{lacks}
 use Rattle.coding.specs.declared.Reading.{Reading}
 use Rattle.coding.specs.declared.Held.{Held}
 use Rattle.coding.specs.declared.Held.the-variants as held
@@ -26,7 +27,7 @@ use Rattle.pages.specs.declared.Counted.the-variants as counted
 use Rattle.pages.specs.declared.Built.{Built}
 use Rattle.pages.specs.declared.PagesWritten.the-variants as written
 use Rattle.pages.specs.Blocks.{blockSize}
-use Rattle.pages.specs.Written.{blockAs, blocksAs, lacksPage, readingPages, sizeRules, countRules, countAnswers, buildRules, builtAs, pagesRules, pagesAnswers, pagesLeaves}
+use Rattle.pages.specs.Written.{blockAs, blocksAs, readingPages, sizeRules, countRules, countAnswers, buildRules, builtAs, pagesRules, pagesAnswers, pagesLeaves}
 use Rattle.pages.specs.Inner.{sizedAs, refusedBuilt, textBuilt, textPages, textPagesLeaves}
 use Rattle.pages.proofs.Steps.{chosen-text, chosen-none, chosen-refused}
 use Rattle.writer.specs.declared.Settled.{Settled}
@@ -79,7 +80,7 @@ module _ (r : Reading) (units : List ℕ) where
     unfolding builtAs buildRules blockAs textBuilt
     builds-text sequence identifier k =
         let ch = chosen r (settled.Text c) e in
-        let x : List Rule = when (lacksPage (readingPages r units) k) WrongPages ∷ [] in
+        let x : List Rule = when (lacks (readingPages r units) k) WrongPages ∷ [] in
         let v : verdict (countRules r units ++ x) ≡ verdict (sizeRules (isUcs2 (r .alphabet)) units ++ x) = behind r units x ∙ ch .0 (sizeRules (isUcs2 (r .alphabet)) units ++ x) in
         sym (ap (λ (v : Verdict). madeOf v (readingPages r units) (blockAs sequence identifier r units k)) v ∙ ap₂ (λ (o : ℕ) (b : Bool). textBuilt sequence identifier o b units k) (ch .1) (ch .2))
 
@@ -104,7 +105,7 @@ module _ (r : Reading) (units : List ℕ) where
     pub builds-refused : (sequence identifier k : ℕ) → refusedBuilt q ≡ builtAs sequence identifier r units k
     unfolding builtAs buildRules
     builds-refused sequence identifier k =
-        let x : List Rule = when (lacksPage (readingPages r units) k) WrongPages ∷ [] in
+        let x : List Rule = when (lacks (readingPages r units) k) WrongPages ∷ [] in
         let v : verdict (countRules r units ++ x) ≡ refused q = behind r units x ∙ chosen r (settled.Refused q) e (sizeRules (isUcs2 (r .alphabet)) units ++ x) in
         sym (simp v)
 

@@ -1,6 +1,6 @@
 -- Each page passed has its place, so that the first without one decides, or the end of the pages does. Assumes nothing.
 use Prim.Native.Nat.{ℕ, _+_, _-_, _≤_, _<_}
-use mathlib.Core.Path.{_≡_, sym, ap, _∙_}
+use mathlib.Core.Path.{_≡_, sym, ap, subst, _∙_}
 use mathlib.Core.Bool.{false, not}
 use mathlib.Core.List.{List}
 use native.Mathlib.Omega.{arith}
@@ -9,7 +9,7 @@ use borrow.Author.Needs.{needs}
 use borrow.Author.Tests.{eq-eqb, ne-eqb}
 use lib.Dec.{eqb}
 use lib.ListN.{getD}
-use Rattle.pages.proofs.Table.{some-here, some-none}
+use Rattle.filling.proofs.Runs.{some-here, some-none}
 use Rattle.ordering.proofs.all_there.Statement.{statement}
 use Rattle.ordering.proofs.all_there.Tie as tie
 
@@ -35,10 +35,7 @@ returns : tie.Need-returns Inv-loop μ-loop
 returns c =
     let places : List ℕ = c .before .before .before .args .t1 in
     let k : ℕ = c .before .before .loop .k in
-    let next : 1 + k ≡ k + 1 = omega arith in
-    sym
-    (ap not
-    (some-here (λ j. eqb (getD places j 0) 0) 1 _ k (c .before .loop-test .taken) (eq-eqb _ _ (ap (λ (j : ℕ). getD places j 0) next ∙ c .if1 .taken))))
+    sym (ap not (some-here (λ j. eqb (getD places j 0) 0) 1 _ (k + 1) (omega arith) (omega (arith, c .before .loop-test .taken)) (eq-eqb _ _ (c .if1 .taken))))
 
 loop-less : tie.Need-loop-less Inv-loop μ-loop
 loop-less c = search needs
@@ -54,7 +51,11 @@ returns-2 : tie.Need-returns-2 Inv-loop μ-loop
 returns-2 c =
     let places : List ℕ = c .before .before .args .t1 in
     sym
-    (ap not (some-none (λ j. eqb (getD places j 0) 0) 1 _ (λ j h. c .before .loop .inv .1 j (omega (arith, h, c .loop-test .left)))))
+    (ap not
+    (some-none (λ j. eqb (getD places j 0) 0) 1 _
+    (λ j low high.
+    let which : 1 + (j - 1) ≡ j = omega arith in
+    subst (λ (i : ℕ). eqb (getD places i 0) 0 ≡ false) which (c .before .loop .inv .1 (j - 1) (omega (arith, high, c .loop-test .left))))))
 
 pub all-there-spec : {M : Type 1} → statement M
 all-there-spec =

@@ -5,8 +5,8 @@ use mathlib.Core.Bool.{Bool, true, false, not, _&&_}
 use borrow.Author.Needs.{needs}
 use borrow.Author.Tests.{eq-eqb, ne-eqb, le-leb, lt-leb, ltb-true, ltb-false}
 use lib.Dec.{eqb, leb, ltb}
+use Rattle.filling.specs.Numbered.{lacks}
 use Rattle.pages.specs.Blocks.{headerOf}
-use Rattle.pages.specs.Written.{lacksPage}
 use Rattle.pages.specs.Joined.{ofOneMessage}
 use Rattle.ordering.proofs.belongs.Statement.{statement}
 use Rattle.ordering.proofs.belongs.Tie as tie
@@ -22,7 +22,7 @@ same-head-requires c κs = search needs
 
 -- the tests in a row: whether octets 1 to 5 are the same, the two totals, the number
 abbrev judged : Bool → ℕ → ℕ → ℕ → Bool
-judged same of total k = (same && eqb of total) && not (lacksPage total k)
+judged same of total k = (same && eqb of total) && not (lacks total k)
 
 other-head : {s : Bool} (t u k : ℕ) → s ≡ false → s ≡ judged s t u k
 other-head t u k e = rw e
@@ -42,7 +42,7 @@ number-more {s} {t} {u} {k} e f g = rw (e, eq-eqb t u f, ne-eqb k 0 g) (go (ltb 
 
 known : (c : tie.After-same-head) → judged (c .same-head .result) (c .before .before .read-header .result .total) (c .before .read-header2 .result .total) (c .before .read-header2 .result .number)
     ≡ (ofOneMessage (c .before .before .before .args .first) (c .before .before .before .args .block)
-    && not (lacksPage (headerOf (c .before .before .before .args .block) .total) (headerOf (c .before .before .before .args .block) .number)))
+    && not (lacks (headerOf (c .before .before .before .args .block) .total) (headerOf (c .before .before .before .args .block) .number)))
 unfolding ofOneMessage
 known c = simp (c .same-head .ensures, c .before .before .read-header .ensures, c .before .read-header2 .ensures)
 

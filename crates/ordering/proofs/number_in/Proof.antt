@@ -4,7 +4,7 @@ use native.Mathlib.Omega.{arith}
 use borrow.Author.Needs.{needs}
 use Rattle.pages.specs.declared.Header.{Header}
 use Rattle.pages.specs.Blocks.{headerOf}
-use Rattle.pages.proofs.Table.{number-small}
+use Rattle.pages.proofs.Placing.{number-small}
 use Rattle.ordering.proofs.number_in.Statement.{statement}
 use Rattle.ordering.proofs.number_in.Tie as tie
 

@@ -8,16 +8,18 @@ use native.Mathlib.Omega.{arith}
 use borrow.Author.Needs.{needs}
 use borrow.Author.Tests.{not-true, not-false}
 use lib.ListN.{getD, set}
+use Rattle.filling.specs.Numbered.{lacks}
+use Rattle.filling.proofs.Table.{placing-none, placing-more, belonging, lacking}
 use Rattle.pages.specs.declared.Header.{Header}
 use Rattle.pages.specs.Blocks.{headerOf}
-use Rattle.pages.specs.Written.{lacksPage}
-use Rattle.pages.specs.Joined.{blockCount, blockAt, headerAt, numberAt, totalAt, ofOneMessage}
-use Rattle.pages.proofs.Table.{Placing, placing-none, placing-more, placing-repeated, belonging, lacking, total-small, block-here, wrong-foreign, order-none, order-wrong, order-missing, order-right}
+use Rattle.pages.specs.Joined.{blockCount, blockAt, headerAt, numberAt, totalAt, ofOneMessage, alikeAt}
+use Rattle.pages.proofs.Placing.{total-small}
+use Rattle.pages.proofs.Table.{BlocksPlaced, number-at-small, block-here, order-none, order-foreign, order-repeated, order-missing, order-right}
 use Rattle.ordering.proofs.page_order.Statement.{statement}
 use Rattle.ordering.proofs.page_order.Tie as tie
 
 abbrev Inv-loop : tie.InvT-loop
-Inv-loop blocks count first head places₀ i₀ places i = (i ≤ blockCount blocks) × Placing blocks i places
+Inv-loop blocks count first head places₀ i₀ places i = (i ≤ blockCount blocks) × BlocksPlaced blocks i places
 
 abbrev μ-loop : tie.MeasureT-loop
 μ-loop blocks count first head places₀ i₀ places i = count - i
@@ -37,11 +39,12 @@ block-is : (c : tie.After-block-at2 Inv-loop μ-loop) → c .block-at2 .result �
 block-is c = c .block-at2 .ensures ∙ block-here (octets (c .before .before .before .before)) (c .before .before .loop .i) (c .before .loop-test .taken)
 
 belongs-is : (c : tie.After-belongs Inv-loop μ-loop)
-    → c .belongs .result ≡ belonging (octets (c .before .before .before .before .before)) (c .before .before .before .loop .i)
+    → let o : List ℕ = octets (c .before .before .before .before .before) in
+    c .belongs .result ≡ belonging (numberAt o) (totalAt o) (alikeAt o) (c .before .before .before .loop .i)
 unfolding headerAt
 belongs-is c =
     c .belongs .ensures
-    ∙ ap₂ (λ (a b : List ℕ). ofOneMessage a b && not (lacksPage (headerOf b .total) (headerOf b .number)))
+    ∙ ap₂ (λ (a b : List ℕ). ofOneMessage a b && not (lacks (headerOf b .total) (headerOf b .number)))
     (first-is (c .before .before .before .before .before)) (block-is (c .before))
 
 number-is : (c : tie.After-number-in Inv-loop μ-loop)
@@ -68,7 +71,7 @@ read-header-requires : tie.Need-read-header-requires Inv-loop μ-loop
 read-header-requires c κs = search needs
 
 loop-holds : tie.Need-loop-holds Inv-loop μ-loop
-loop-holds c = (omega arith, placing-none _)
+loop-holds c = (omega arith, placing-none _ _ _ _ 16)
 
 block-at-requires-2 : tie.Need-block-at-requires-2 Inv-loop μ-loop
 block-at-requires-2 c κs = search needs
@@ -82,7 +85,7 @@ wrong-order-requires-2 c κs = search needs
 returns-2 : tie.Need-returns-2 Inv-loop μ-loop
 returns-2 c =
     let at = c .before .before in
-    c .wrong-order2 .ensures ∙ sym (order-wrong _ (wrong-foreign _ _ (at .before .before .loop-test .taken) (sym (belongs-is at) ∙ not-true _ (c .before .if2 .taken))))
+    c .wrong-order2 .ensures ∙ sym (order-foreign _ _ (at .before .before .loop-test .taken) (sym (belongs-is at) ∙ not-true _ (c .before .if2 .taken)))
 
 number-in-requires : tie.Need-number-in-requires Inv-loop μ-loop
 number-in-requires c κs = search needs
@@ -103,8 +106,7 @@ returns-3 c =
     let places : List ℕ = in-loop .before .loop .places in
     c .wrong-order3 .ensures
     ∙ sym
-    (order-wrong _
-    (placing-repeated (in-loop .before .loop .inv .1) (in-loop .loop-test .taken) (λ e. omega (arith, ap (λ (k : ℕ). getD places k 0) (number-is at), c .before .if3 .taken))))
+    (order-repeated _ (in-loop .before .loop .inv .1) (in-loop .loop-test .taken) (λ e. omega (arith, ap (λ (k : ℕ). getD places k 0) (number-is at), c .before .if3 .taken)))
 
 add-i : tie.Need-add-i Inv-loop μ-loop
 add-i c = search needs
@@ -126,8 +128,8 @@ loop-again c =
     let places : List ℕ = in-loop .before .loop .places in
     let o : List ℕ = octets (in-loop .before .before .before) in (
       omega arith,
-      subst (λ (k : ℕ). Placing o (i + 1) (set places k (i + 1))) (sym (number-is at))
-          (placing-more (in-loop .before .loop .inv .1) (in-loop .loop-test .taken) (sym (belongs-is (at .before .before)) ∙ not-false _ (at .before .if2 .left))
+      subst (λ (k : ℕ). BlocksPlaced o (i + 1) (set places k (i + 1))) (sym (number-is at))
+          (placing-more (in-loop .before .loop .inv .1) (in-loop .loop-test .taken) (number-at-small o i) (sym (belongs-is (at .before .before)) ∙ not-false _ (at .before .if2 .left))
           (omega (arith, ap (λ (k : ℕ). getD places k 0) (number-is at), c .if3 .left))),
     )
 
@@ -148,7 +150,7 @@ returns-4 c =
     let at = there .before .before .before in
     c .wrong-order4 .ensures
     ∙ sym
-    (order-missing (at .loop .inv .1) (omega (arith, at .loop .inv .0, there .before .before .loop-test .left))
+    (order-missing _ (at .loop .inv .1) (omega (arith, at .loop .inv .0, there .before .before .loop-test .left))
     (not-false _ (sym (lacking-is there) ∙ not-true _ (c .before .if4 .taken))))
 
 returns-5 : tie.Need-returns-5 Inv-loop μ-loop
@@ -156,7 +158,7 @@ returns-5 c =
     let there = c .before in
     let at = there .before .before .before in
     sym
-    (order-right (at .loop .inv .1) (omega (arith, at .loop .inv .0, there .before .before .loop-test .left)) (at .before .before .before .if1 .left)
+    (order-right _ (at .loop .inv .1) (omega (arith, at .loop .inv .0, there .before .before .loop-test .left)) (at .before .before .before .if1 .left)
     (not-true _ (sym (lacking-is there) ∙ not-false _ (c .if4 .left))))
 
 pub page-order-spec : {M : Type 1} → statement M

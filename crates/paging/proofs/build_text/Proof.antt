@@ -9,13 +9,15 @@ use denote.Ref.{now}
 use borrow.Author.Tests.{ltb-false}
 use lib.ListN.{length}
 use lib.Seq.{length-take-le}
+use Rattle.filling.specs.Numbered.{lacks}
+use Rattle.filling.proofs.Parts.{piece-within}
+use Rattle.filling.proofs.Placing.{lacks-none, lacks-0, lacks-above}
 use Rattle.pages.specs.declared.Built.{Built}
 use Rattle.pages.specs.declared.Counted.the-variants.{Pages}
 use Rattle.pages.specs.Parts.{pageRoom, contentOf}
-use Rattle.pages.specs.Written.{pageBlock, lacksPage}
+use Rattle.pages.specs.Written.{pageBlock}
 use Rattle.pages.specs.Inner.{textBuilt}
-use Rattle.pages.proofs.Accepting.{lacks-none}
-use Rattle.pages.proofs.Steps.{Gathered, page-within, lacks-none-first, lacks-above, built-lacks, built-page, built-refused}
+use Rattle.pages.proofs.Steps.{Gathered, built-lacks, built-page, built-refused}
 use borrow.Author.Needs.{needs}
 use Rattle.paging.proofs.build_text.Statement.{statement}
 use Rattle.paging.proofs.build_text.Tie as tie
@@ -54,10 +56,10 @@ returns c =
     let joined = c .before in
     let told = joined .before .before in
     let a = told .before .before .before .before .before .before .before .args in
-    let lacks : lacksPage (told .answer .given .0 .0) (a .number) ≡ true =
-    ⊎-elim (λ w. lacks-none-first (told .answer .given .0 .0) (a .number) (w .taken)) (λ w. lacks-above (told .answer .given .0 .0) (a .number) (w .1 .taken)) (joined .if1 .came) in
+    let absent : lacks (told .answer .given .0 .0) (a .number) ≡ true =
+    ⊎-elim (λ w. lacks-0 (told .answer .given .0 .0) (a .number) (w .taken)) (λ w. lacks-above (told .answer .given .0 .0) (a .number) (w .1 .taken)) (joined .if1 .came) in
     c .no-page .ensures
-    ∙ built-lacks (a .sequence) (a .identifier) (a .coding .octet) (ucs2At told) (unitsAt told) (told .answer .given .0 .0) (found told .fits) (a .number) lacks
+    ∙ built-lacks (a .sequence) (a .identifier) (a .coding .octet) (ucs2At told) (unitsAt told) (told .answer .given .0 .0) (found told .fits) (a .number) absent
     ∙ ap (λ (b : Bool). textBuilt (a .sequence) (a .identifier) (a .coding .octet) b (unitsAt told) (a .number)) (told .before .before .before .before .before .ucs2 .ensures)
 
 octet-requires : tie.Need-octet-requires
@@ -92,7 +94,7 @@ nth-block-requires c κs =
       omega (arith, w .fits .most, k),
       w .low,
       subst (λ (l : List ℕ). pageRoom (ucs2At told) * (a .number - 1) ≤ length l) (sym (w .content))
-          (page-within (pageRoom (ucs2At told)) (a .number - 1) (told .answer .given .0 .0) (length (contentOf (ucs2At told) (unitsAt told))) (omega (arith, k)) (w .fits .full)),
+          (piece-within (pageRoom (ucs2At told)) (a .number - 1) (told .answer .given .0 .0) (length (contentOf (ucs2At told) (unitsAt told))) (omega (arith, k)) (w .fits .full)),
     )
 
 enum-known-answer-2 : tie.Need-enum-known-answer-2

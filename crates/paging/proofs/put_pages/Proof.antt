@@ -9,10 +9,10 @@ use denote.Ref.{now}
 use lib.ListN.{length, take, drop}
 use Rattle.lists.specs.Lists.{laid}
 use Rattle.lists.proofs.Laid.{laid-then, laid-length}
+use Rattle.filling.proofs.Parts.{piece-within}
 use Rattle.pages.specs.Parts.{pageRoom}
 use Rattle.pages.specs.Written.{pageBlock, blocksFrom}
 use Rattle.pages.proofs.Blocks.{page-block-length, blocks-length, blocks-more}
-use Rattle.pages.proofs.Steps.{page-within}
 use borrow.Author.Needs.{needs}
 use Rattle.paging.proofs.put_pages.Statement.{statement}
 use Rattle.paging.proofs.put_pages.Tie as tie
@@ -33,7 +33,7 @@ nth-block-requires c κs =
     let at = c .before in
     let start = at .before .before .before .before in
     let a = start .args in
-    let begun = page-within (pageRoom (a .ucs2)) (at .loop .k) (a .total) (length (cond (a .ucs2) (now (a .units)) (now (a .septets)))) (c .loop-test .taken) (start .pre .1) in
+    let begun = piece-within (pageRoom (a .ucs2)) (at .loop .k) (a .total) (length (cond (a .ucs2) (now (a .units)) (now (a .septets)))) (c .loop-test .taken) (start .pre .1) in
     (omega (arith, start .pre .0 .0), start .pre .0 .2, omega (arith, begun))
 
 mul-put-block : tie.Need-mul-put-block Inv-loop μ-loop

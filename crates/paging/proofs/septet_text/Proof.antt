@@ -9,9 +9,9 @@ use lib.Seq.{take-all}
 use Rattle.lists.proofs.Below.{Below, below-take, below-drop}
 use Rattle.stream.specs.Pages.{page}
 use Rattle.stream.specs.ArrayCalls.{pageLeaves}
-use Rattle.pages.specs.Parts.{partAt}
-use Rattle.pages.proofs.Parts.{part-length}
-use Rattle.pages.proofs.Steps.{part-from, page-left}
+use Rattle.filling.specs.Filling.{partAt}
+use Rattle.filling.proofs.Parts.{part-length, part-from}
+use Rattle.pages.proofs.Steps.{page-left}
 use borrow.Author.Needs.{needs}
 use Rattle.paging.proofs.septet_text.Statement.{statement}
 use Rattle.paging.proofs.septet_text.Tie as tie
@@ -45,9 +45,9 @@ returns c =
     let a = start .args in
     let s : List ℕ = now (a .septets) in
     let rest : take (length s - 93 * a .k) (drop (93 * a .k) s) ≡ drop (93 * a .k) s = take-all (length s - 93 * a .k) (drop (93 * a .k) s) (omega (arith, length-drop (93 * a .k) s)) in
-    let low : Below 128 (partAt 93 s (a .k + 1)) = subst (Below 128) (part-from 93 (a .k) s) (below-take 128 (drop (93 * a .k) s) (below-drop 128 s (start .pre .1) (93 * a .k)) 93) in
+    let low : Below 128 (partAt 93 s (a .k + 1)) = subst (Below 128) (part-from 93 s (a .k)) (below-take 128 (drop (93 * a .k) s) (below-drop 128 s (start .pre .1) (93 * a .k)) 93) in
     call .pack-page .ensures .1
-    ∙ ap (λ (p : List ℕ). pageLeaves p (replicate 82 0)) (laid .page-of .ensures ∙ ap page (ap (take 93) rest ∙ part-from 93 (a .k) s))
+    ∙ ap (λ (p : List ℕ). pageLeaves p (replicate 82 0)) (laid .page-of .ensures ∙ ap page (ap (take 93) rest ∙ part-from 93 s (a .k)))
     ∙ page-left (partAt 93 s (a .k + 1)) (replicate 82 0) (part-length 93 s (a .k + 1)) low refl
 
 pub septet-text-spec : {M : Type 1} → statement M

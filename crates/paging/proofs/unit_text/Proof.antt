@@ -7,7 +7,7 @@ use denote.Ref.{now}
 use lib.ListN.{length, take, drop, length-drop}
 use lib.Seq.{take-all}
 use Rattle.stream.specs.Ucs2.{unitOctets, unitPage}
-use Rattle.pages.proofs.Steps.{part-from}
+use Rattle.filling.proofs.Parts.{part-from}
 use borrow.Author.Needs.{needs}
 use Rattle.paging.proofs.unit_text.Statement.{statement}
 use Rattle.paging.proofs.unit_text.Tie as tie
@@ -35,7 +35,7 @@ returns c =
     let a = c .before .before .before .args in
     let us : List ℕ = now (a .units) in
     let rest : take (length us - 41 * a .k) (drop (41 * a .k) us) ≡ drop (41 * a .k) us = take-all (length us - 41 * a .k) (drop (41 * a .k) us) (omega (arith, length-drop (41 * a .k) us)) in
-    c .page-octets .ensures ∙ ap (λ (l : List ℕ). unitOctets (unitPage l)) (ap (take 41) rest ∙ part-from 41 (a .k) us)
+    c .page-octets .ensures ∙ ap (λ (l : List ℕ). unitOctets (unitPage l)) (ap (take 41) rest ∙ part-from 41 us (a .k))
 
 pub unit-text-spec : {M : Type 1} → statement M
 unit-text-spec =
