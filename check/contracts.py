@@ -2,7 +2,8 @@
 """Holds every public call of a library crate to the form of its contract.
 
 A public call has no `requires`. Its `ensures answer` is an equation of the result with a definition, and for each lent `&mut`
-buffer one clause is an equation of its contents at exit. The definitions stand in specs/ of a crate, and not in an Inner file.
+buffer one clause is an equation of its contents at exit. A call that answers nothing has the clauses of its buffers alone, at least
+one. The definitions stand in specs/ of a crate, and not in an Inner file.
 In proofs/Outcomes.antt of its crate, which Lib.antt names, a lemma states `OneAnswer` of that call's own contract, and one
 `OneBuffer` for each lent buffer: any two outcomes coincide. Of a call that borrows a struct, whose proof walks its code, they
 state `OneResult` and `OneRecord` of its clauses. docs/OUTCOMES.md has a row for each call, and for nothing else.
@@ -58,13 +59,18 @@ def judged(crate, module, name, kind, head, outcomes, defined):
     clauses = [(m["kind"], m["name"], " ".join(m["body"].split())) for m in CLAUSE.finditer(head)]
     if any(clause == "requires" for clause, _, _ in clauses):
         wants.append("has a requires")
+    silent = "->" not in front
     answers = [body for clause, named, body in clauses if (clause, named) == ("ensures", "answer")]
     equation = re.fullmatch(r"λ (\w+)\. ⌜ \1 ≡ (.*) ⌝", answers[0]) if len(answers) == 1 else None
-    if not equation or re.search(rf"(?<![\w.]){equation[1]}(?![\w])", equation[2]) or ".exit" in equation[2]:
+    if silent:
+        cited.append(None)
+    elif not equation or re.search(rf"(?<![\w.]){equation[1]}(?![\w])", equation[2]) or ".exit" in equation[2]:
         wants.append("has no `ensures answer` that is an equation of the result")
     else:
         cited.append(first_name(equation[2]))
     buffers = [(at, one.split(":")[0]) for at, one in enumerate(parameters(front)) if re.search(r": &(?:'\w+ )?mut ", one)]
+    if silent and not buffers:
+        wants.append("answers nothing and lends no buffer")
     for _, buffer in buffers:
         left = [re.fullmatch(rf"λ \w+\. ⌜ now \(«?{buffer}»? \.exit\) ≡ (.*) ⌝", body) for _, _, body in clauses]
         left = [found[1] for found in left if found and ".exit" not in found[1]]
@@ -72,7 +78,7 @@ def judged(crate, module, name, kind, head, outcomes, defined):
             wants.append(f"has no equation of {buffer} at exit")
         else:
             cited.append(first_name(left[0]))
-    wants += [f"cites {one}, which no specs/ outside Inner defines" for one in cited if one not in defined]
+    wants += [f"cites {one}, which no specs/ outside Inner defines" for one in cited if one and one not in defined]
 
     stated, modules = lemmas_in(outcomes)
     law = name.replace("_", "-")
@@ -98,7 +104,7 @@ def judged(crate, module, name, kind, head, outcomes, defined):
 
     known = re.search(rf"^use Rattle.words(?:·proofs)?\.proofs\.Unique\.\{{[^}}]*{answer.split()[0]}", outcomes, re.M)
     lemmas.append(stating(answer) if known else None)
-    if not lemmas[0]:
+    if not silent and not lemmas[0]:
         wants.append(f"has no lemma {law}-unique that is {answer.split()[0]} of its contract")
     for at, buffer in buffers:
         lemmas.append(stating(kept.replace("PATH", re.escape(" .1" * at + " .0"))))
@@ -154,6 +160,13 @@ def self_test():
         ("a lemma of another lent record", lent, walks.replace("(u .0)", "(u .1 .0)"), 1),
         ("a lent record at entry", lent.replace(".exit", ".entry"), walks, 1),
     ]
+    mute = good.replace(" -> usize", "").replace(answer + "\n", "")
+    faults += [
+        ("nothing of a call that answers nothing", mute, laws.replace("pub fill-unique", "pub fill-other"), 0),
+        ("no equation of its buffer", mute.replace(buffer + "\n", ""), laws, 1),
+        ("no lemma of its buffer", mute, laws.replace("pub fill-buffer-unique", "pub fill-buffer-other"), 1),
+        ("no buffer", "pub fn rest(n: usize)\n{\n}\n", laws, 1),
+    ]
     for front in ("const ", "unsafe ", 'extern "C" ', "const unsafe "):
         faults.append((f"a pub {front}fn", good.replace("pub fn", f"pub {front}fn").replace(buffer + "\n", ""), laws, 1))
     for fault, text, lemmas, expected in faults:
@@ -184,7 +197,7 @@ def main(rows_only):
             for name, kind, head in calls(source.read_text(encoding="utf-8")):
                 wants, cited, laws = judged(crate.name, module, name, kind, head, lemmas, defined)
                 call = f"{kind}::{name}" if kind else name
-                quoted = [", ".join(f"`{one}`" for one in some) for some in (cited[:1], cited[1:], [law for law in laws if law])]
+                quoted = [", ".join(f"`{one}`" for one in some if one) for some in (cited[:1], cited[1:], laws)]
                 rows.append(f"| {crate.name} | `{call}` | {quoted[0]} | {quoted[1]} | {quoted[2]} |".replace("|  |", "| |"))
                 if wants:
                     faults.append(f"{source.relative_to(root)}: {name}: {'; '.join(wants)}")

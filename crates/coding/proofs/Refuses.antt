@@ -1,5 +1,6 @@
 -- Each call on a coding octet refuses exactly where its list of rules says, and with no other refusal.
 -- Assumes nothing.
+--   exactly   an answer that a verdict settles into is the refusal q where the rules give q, and only there
 --   read-refuses, write-refuses, holds-refuses   the answer is the refusal q where the call's rules give q, and only there
 --   read-refuses-2, write-refuses-8              reading an octet refuses 2 alone, and writing a reading 8 alone
 use mathlib.Core.Path.{_≡_, refl, ap, sym, _∙_}
@@ -51,7 +52,7 @@ gives (when false r ∷ rules) q (inr g) = gives rules q (g .1)
 
 -- an answer that a verdict settles into is the refusal q exactly where the rules give q
 module _ {A : Type 0} (tell : A → Verdict) (refuse : Refusal → A) (given : A) (p : (r : Refusal) → tell (refuse r) ≡ refused r) (k : tell given ≡ accepted) where
-  exactly : (rules : List Rule) (q : Refusal) → (settle (verdict rules) refuse given ≡ refuse q) ↔ GivenBy rules q
+  pub exactly : (rules : List Rule) (q : Refusal) → (settle (verdict rules) refuse given ≡ refuse q) ↔ GivenBy rules q
   exactly rules q = (
     λ (e : settle (verdict rules) refuse given ≡ refuse q). told rules q (settle-told tell refuse given p k (verdict rules) (refuse q) (sym e) ∙ p q),
     λ (g : GivenBy rules q). ap (λ (v : Verdict). settle v refuse given) (gives rules q g),

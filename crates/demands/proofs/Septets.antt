@@ -90,7 +90,7 @@ unfolding gather
 seven b h m zero = lit< tt
 seven b h m (suc w) = omega (arith, h m, seven b h (suc m) w, pow-succ' 2 w)
 
-cut-below : (b : ℕ → ℕ) → ((m : ℕ) → b m < 2) → (m n : ℕ) → Below 128 (cut b 7 m n)
+pub cut-below : (b : ℕ → ℕ) → ((m : ℕ) → b m < 2) → (m n : ℕ) → Below 128 (cut b 7 m n)
 unfolding cut
 cut-below b h m zero k = omega arith
 cut-below b h m (suc n) zero = seven b h m 7

@@ -2,6 +2,7 @@
 ghost use mathlib.Core.Path.{_≡_};
 ghost use Prim.Native.Nat.{_≤_};
 ghost use lib.ListN.{length, take};
+ghost use Rattle.words.specs.declared.Service.the-variants.{ShortMessage};
 ghost use Rattle.stream.specs.Ucs2.{unitOctets, unitPage};
 ghost use Rattle.stream.specs.UnitCalls.{toOctetsAnswers, toOctetsLeaves};
 ghost use Rattle.stream.specs.Storing.{givenAnswers, givenLeaves};
@@ -48,6 +49,18 @@ fn put_units(units: &[u16], out: &mut [u8]) -> Filled
         i += 1;
     }
     Filled::Done(2 * n)
+}
+
+// The same for a short message: a part of a long one is laid by it, so that the whole-message call keeps its one caller, in whose place the compiler puts it.
+// Refuses a text over the size (5), a short buffer (7). Stores the octets at the front of out; a refusal stores nothing.
+pub fn short_octets(units: &[u16], out: &mut [u8]) -> Filled
+    ensures answer { λ r. ⌜ r ≡ toOctetsAnswers ShortMessage (now (units .entry)) (length (now (out .entry))) ⌝ }
+    ensures buffer { λ r. ⌜ now (out .exit) ≡ toOctetsLeaves ShortMessage (now (units .entry)) (now (out .entry)) ⌝ }
+{
+    if 70 < units.len() {
+        return Filled::Refused(Refusal::TooLong);
+    }
+    put_units(units, out)
 }
 
 // The page of a text: 41 units 000D, and the text over the front.

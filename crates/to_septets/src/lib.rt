@@ -1,11 +1,13 @@
 // Text to septets: how many a text takes, its septets in an array by value, and in a lent buffer.
 ghost use mathlib.Core.Path.{_≡_};
 ghost use mathlib.Core.Bool.{true, false};
-ghost use lib.ListN.{length};
+ghost use lib.ListN.{length, take};
+ghost use Rattle.lists.specs.Lists.{laid};
 ghost use Rattle.words.specs.declared.Refusal.{Refusal};
 ghost use Rattle.words.specs.declared.Filled.the-variants.{Done, Refused};
 ghost use Rattle.words.specs.Judging.{verdict, settle};
 ghost use Rattle.letters.specs.Writing.{encodedAs, encodedLeaves, gatheredAs, measured, septetsAnswers, septetsLeaves};
+ghost use Rattle.letters.specs.OwnCodes.{ownText, lowOctets};
 ghost use Rattle.letters.specs.Inner.{toldRules};
 use letters::Encoded;
 use letters::Gathered;
@@ -107,4 +109,34 @@ pub fn encode(text: &[u16], out: &mut [u8]) -> Encoded
         };
     }
     writing::encode_from(text, front, out)
+}
+
+// Whether every unit of the text is its own code, as most letters, digits and signs are. It goes by blocks of 64, and ends at the first
+// that has another unit.
+pub fn own_text(text: &[u16]) -> bool
+    ensures answer { λ r. ⌜ r ≡ ownText (now (text .entry)) ⌝ }
+{
+    let len = text.len();
+    let mut n: usize = 0;
+    while 64 <= len - n {
+        if own::odd_units(text, n, n + 64) != 0 {
+            return false;
+        }
+        n += 64;
+    }
+    own::odd_units(text, n, len) == 0
+}
+
+// The low octets of the units, which are the septets of a text whose every unit is its own code. Lays them over the front of the lent
+// buffer, as many as there is room for. It refuses nothing. The mask costs two instructions for sixteen units; `own::copy_units`, which
+// knows its units to be their own codes, does without.
+pub fn low_octets(text: &[u16], out: &mut [u8])
+    ensures buffer { λ _. ⌜ now (out .exit) ≡ laid (take (length (now (out .entry))) (lowOctets (now (text .entry)))) (now (out .entry)) ⌝ }
+{
+    let n = own::fewer(text.len(), out.len());
+    let mut i: usize = 0;
+    while i < n {
+        out[i] = (text[i] & 0xff) as u8;
+        i += 1;
+    }
 }

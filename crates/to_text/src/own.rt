@@ -5,8 +5,10 @@ ghost use mathlib.Core.Bool.{cond};
 ghost use Prim.Native.Nat.{ℕ, _+_, _-_, _≤_, _<_};
 ghost use lib.Dec.{eqb};
 ghost use lib.ListN.{length, take, getD};
+ghost use lib.Seq.{slice};
 ghost use Rattle.lists.specs.Lists.{laid};
-ghost use Rattle.letters.specs.Inner.{Own, OwnFrom};
+ghost use Rattle.letters.specs.OwnCodes.{isOwnCode, ownText};
+ghost use Rattle.letters.specs.Inner.{OwnFrom};
 
 // By how much a is above b, or 0.
 fn above_octet(a: u8, b: u8) -> u8
@@ -22,9 +24,9 @@ fn alike_octet(a: u8, b: u8) -> u8
     if a == b { 0xff } else { 0 }
 }
 
-// 0 only for a septet that is its own unit: from 20 to 7A, but for 24, 40 and 5B to 60.
+// 0 for a septet that is its own unit, and only for one: from 20 to 7A, but for 24, 40 and 5B to 60.
 fn odd_septet(septet: u8) -> u8
-    ensures { λ r. ⌜ (r ≡ 0 → Own septet) ⌝ }
+    ensures { λ r. ⌜ eqb r 0 ≡ isOwnCode septet ⌝ }
 {
     let small = septet | 0x20;
     above_octet(0x20, septet)
@@ -33,10 +35,10 @@ fn odd_septet(septet: u8) -> u8
         | alike_octet(small, 0x60)
 }
 
-// 0 only for septets of which each is its own unit, from one place to another.
+// 0 for septets of which each is its own unit, from one place to another, and only for such.
 fn odd_septets(septets: &[u8], from: usize, to: usize) -> u8
     requires { ⌜ (from ≤ to) × (to ≤ length (now septets)) ⌝ }
-    ensures { λ r. ⌜ (r ≡ 0 → OwnFrom (now (septets .entry)) from to) ⌝ }
+    ensures { λ r. ⌜ eqb r 0 ≡ ownText (slice from to (now (septets .entry))) ⌝ }
 {
     let mut bits: u8 = 0;
     let mut i: usize = from;
@@ -50,7 +52,7 @@ fn odd_septets(septets: &[u8], from: usize, to: usize) -> u8
 // The same of eight septets: of a run of known length the compiler makes a few instructions.
 fn odd_eight(septets: &[u8], n: usize) -> u8
     requires { ⌜ n + 8 ≤ length (now septets) ⌝ }
-    ensures { λ r. ⌜ (r ≡ 0 → OwnFrom (now (septets .entry)) n (n + 8)) ⌝ }
+    ensures { λ r. ⌜ eqb r 0 ≡ ownText (slice n (n + 8) (now (septets .entry))) ⌝ }
 {
     odd_septets(septets, n, n + 8)
 }

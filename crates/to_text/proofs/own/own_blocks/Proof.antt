@@ -4,7 +4,7 @@ use Prim.Native.Nat.{_+_, _-_, _≤_}
 use lib.ListN.{length}
 use borrow.Author.Needs.{needs}
 use Rattle.letters.specs.Inner.{OwnFrom}
-use Rattle.letters.proofs.OwnCodes.{own-none, own-join}
+use Rattle.letters.proofs.OwnCodes.{own-none, own-join, gathered-own}
 use Rattle.to_text.proofs.own.own_blocks.Statement.{statement}
 use Rattle.to_text.proofs.own.own_blocks.Tie as tie
 
@@ -41,7 +41,9 @@ loop-less c = search needs
 loop-again : tie.Need-loop-again Inv-loop μ-loop
 loop-again c =
     let at = c .before .before .before in
-    (search needs, own-join (at .before .before .before .args .septets .now) (at .loop .n) (at .loop .n + 32) (at .loop .inv .1) (c .before .odd-septets .ensures (c .if2 .left)))
+    let s = at .before .before .before .args .septets .now in
+    let own = gathered-own s (at .loop .n) (at .loop .n + 32) (c .before .odd-septets .result) (search needs) (c .before .odd-septets .ensures) (c .if2 .left) in
+    (search needs, own-join s (at .loop .n) (at .loop .n + 32) (at .loop .inv .1) own)
 
 returns-3 : tie.Need-returns-3 Inv-loop μ-loop
 returns-3 c = c .before .loop .inv

@@ -5,7 +5,7 @@ use native.Mathlib.Omega.{arith}
 use lib.ListN.{length}
 use borrow.Author.Needs.{needs}
 use Rattle.letters.specs.Inner.{OwnFrom}
-use Rattle.letters.proofs.OwnCodes.{own-none, own-join}
+use Rattle.letters.proofs.OwnCodes.{own-none, own-join, gathered-own}
 use Rattle.to_text.proofs.own.own_septets.Statement.{statement}
 use Rattle.to_text.proofs.own.own_septets.Tie as tie
 
@@ -42,7 +42,9 @@ loop-less c = search needs
 loop-again : tie.Need-loop-again Inv-loop μ-loop
 loop-again c =
     let at = c .before .before .before in
-    (search needs, own-join (at .before .before .before .before .args .septets .now) (at .loop .n) (at .loop .n + 8) (at .loop .inv .1) (c .before .odd-eight .ensures (c .if2 .left)))
+    let s = at .before .before .before .before .args .septets .now in
+    let own = gathered-own s (at .loop .n) (at .loop .n + 8) (c .before .odd-eight .result) (search needs) (c .before .odd-eight .ensures) (c .if2 .left) in
+    (search needs, own-join s (at .loop .n) (at .loop .n + 8) (at .loop .inv .1) own)
 
 odd-eight-requires-2 : tie.Need-odd-eight-requires-2 Inv-loop μ-loop
 odd-eight-requires-2 c κs = search needs
@@ -55,7 +57,7 @@ returns-4 : tie.Need-returns-4 Inv-loop μ-loop
 returns-4 c =
     let at = c .before .before .before in
     let s = at .before .before .before .before .args .septets .now in
-    let last = c .before .odd-eight2 .ensures (c .if3 .left) in
+    let last = gathered-own s (length s - 8) (length s - 8 + 8) (c .before .odd-eight2 .result) (search needs) (c .before .odd-eight2 .ensures) (c .if3 .left) in
     (search needs, own-join s (at .loop .n) (length s) (at .loop .inv .1) (λ k l m. last k (omega arith) (omega (arith, c .before .before .loop-test .left))))
 
 pub own-septets-spec : {M : Type 1} → statement M
