@@ -1,0 +1,9 @@
+pub mod Behind
+pub mod Parts
+pub mod Written
+pub mod Cutting
+pub mod Read
+pub mod Joined
+pub mod Reports
+pub mod Inner
+pub mod Messages
