@@ -119,6 +119,7 @@ cases =
     ∷ reads 0x00 true 9 (0xff ∷ part2) 0 12 []
     ∷ reads 0x00 true 10 (0xff ∷ part2) 0 4 []
     ∷ reads 0x08 true 3 (0xff ∷ 0x00 ∷ 0x41 ∷ []) 0 12 []
+    ∷ reads 0x08 true 4 (0x02 ∷ 0x00 ∷ 0x05 ∷ 0x41 ∷ []) 0 12 []
     ∷ reads 0x08 true 7 (take 7 units2) 0 4 []
     ∷ reads 0x00 true 8 part2 0 7 []
     -- no octets hold no header, and the empty text without one
