@@ -9,6 +9,8 @@ use Rattle.packing.proofs.unpack.Kinds as unpack-kinds
 use Rattle.packing.proofs.unpack.Reads as unpack
 use Rattle.packing.proofs.pack_text.Kinds as pack-text-kinds
 use Rattle.packing.proofs.pack_text.Reads as pack-text
+use Rattle.packing.proofs.pack_short.Kinds as pack-short-kinds
+use Rattle.packing.proofs.pack_short.Reads as pack-short
 use Rattle.packing.proofs.pack_page.Kinds as pack-page-kinds
 use Rattle.packing.proofs.pack_page.Reads as pack-page
 use Rattle.packing.proofs.unpack_all.Kinds as unpack-all-kinds
@@ -31,6 +33,12 @@ pack-text-unique κs a x y u v p q = p .0 ∙ sym (q .0)
 
 pub pack-text-buffer-unique : OneBuffer pack-text-kinds.ps pack-text-kinds.r (λ κs u. now (u .1 .1 .1 .0)) pack-text.Post
 pack-text-buffer-unique κs a x y u v p q = p .1 ∙ sym (q .1)
+
+pub pack-short-unique : OneAnswer pack-short-kinds.ps pack-short-kinds.r pack-short.Post
+pack-short-unique κs a x y u v p q = p .0 ∙ sym (q .0)
+
+pub pack-short-buffer-unique : OneBuffer pack-short-kinds.ps pack-short-kinds.r (λ κs u. now (u .1 .0)) pack-short.Post
+pack-short-buffer-unique κs a x y u v p q = p .1 ∙ sym (q .1)
 
 pub unpack-all-unique : OneAnswer unpack-all-kinds.ps unpack-all-kinds.r unpack-all.Post
 unpack-all-unique κs a x y u v p q = p .0 ∙ sym (q .0)

@@ -1,6 +1,7 @@
 // Septets into octets and back, under each service.
 ghost use mathlib.Core.Path.{_≡_};
 ghost use lib.ListN.{length};
+ghost use Rattle.words.specs.declared.Service.the-variants.{ShortMessage};
 ghost use Rattle.stream.specs.SeptetCalls.{packAnswers, packLeaves, unpackAnswers, unpackLeaves};
 ghost use Rattle.stream.specs.ArrayCalls.{arrayAnswers, arrayLeaves, pageAnswers, pageLeaves, allAnswers, allLeaves};
 ghost use Rattle.stream.specs.Inner.{countedAs};
@@ -61,6 +62,20 @@ pub fn pack_text(service: Service, septets: &[u8; 184], n: usize, out: &mut [u8]
         return counted(septets::send_page(page, out), count);
     }
     counted(septets::send_front(septets, n, cr, out), count)
+}
+
+// Packs the low seven bits of septets for a short message, all of them, as pack_text does of the first of an array.
+// Refuses more than 160 septets (5), a short buffer (7).
+// Stores the octets at the front of out; a refusal stores nothing.
+pub fn pack_short(septets: &[u8], out: &mut [u8]) -> Packed
+    ensures answer { λ r. ⌜ r ≡ arrayAnswers ShortMessage (now (septets .entry)) (length (now (septets .entry))) (length (now (out .entry))) ⌝ }
+    ensures buffer { λ r. ⌜ now (out .exit) ≡ arrayLeaves ShortMessage (now (septets .entry)) (length (now (septets .entry))) (now (out .entry)) ⌝ }
+{
+    let n = septets.len();
+    if 160 < n {
+        return Packed::Refused(Refusal::TooLong);
+    }
+    counted(septets::send(septets, false, out), n)
 }
 
 // Packs the 93 septets of a page: how many octets that takes.

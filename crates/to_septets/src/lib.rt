@@ -62,11 +62,12 @@ fn judged(units: usize, n: usize, len: usize) -> Filled
     Filled::Done(n)
 }
 
-// The number of septets that the text takes, or its first unlisted unit.
+// The number of septets that the text takes, or its first unlisted unit. Units at its front that are their own codes are copied into an array, which is faster
+// than to count them one by one.
 pub fn septets_in(text: &[u16]) -> Measured
     ensures answer { λ r. ⌜ r ≡ measured (now (text .entry)) ⌝ }
 {
-    let mut scrap = [0u8; 1];
+    let mut scrap = [0u8; 184];
     let whole = encode(text, &mut scrap);
     if whole.units < text.len() {
         return Measured::Stopped(whole.units);
