@@ -1,7 +1,6 @@
 -- How the calls that count, build and write pages come to their verdict, one step after the other. Assumes nothing.
 --   paged-over, paged-none, paged-some      how many pages n take, by the code's own sums
 --   sized-units, sized-septets, sized-unlisted   the verdict on a text by itself: 6, 5
---   chosen-text, chosen-none, chosen-refused     what stands behind 8, 1, 2, 3
 use mathlib.Core.Path.{_≡_, refl, ap, ap₂, _∙_, sym, subst}
 use mathlib.Core.Bool.{Bool, true, false, cond}
 use mathlib.Core.List.{List, [], _∷_, _++_}
@@ -20,16 +19,10 @@ use Rattle.lists.proofs.Laid.{laid-length, laid-full}
 use Rattle.filling.specs.Numbered.{lacks}
 use Rattle.filling.proofs.Parts.{fewest-over, fewest-are, fewest-sum, fewest-some, fewest-hold, fewest-least, fewest-begun}
 use Rattle.letters.proofs.Theorems.{septets-below}
-use Rattle.words.specs.declared.Service.{Service}
 use Rattle.words.specs.declared.Refusal.{Refusal}
 use Rattle.words.specs.declared.Refusal.the-variants.{Unlisted, TooLong, NoRoom, WrongPages}
 use Rattle.words.specs.Judging.{Rule, when, Verdict, verdict, refused, accepted}
 use Rattle.words.proofs.Judging.{verdict-refused-first, verdict-accepted-first, accepted-rule, settle-told, settle-given}
-use Rattle.coding.specs.declared.Reading.{Reading}
-use Rattle.coding.specs.declared.Held.the-variants as held
-use Rattle.coding.specs.declared.OctetWritten.the-variants as octet-written
-use Rattle.coding.specs.LanguageLetters.{codingRules, codingWrites}
-use Rattle.coding.specs.Holding.{textRules, holdsText}
 use Rattle.letters.specs.declared.Encoded.{Encoded}
 use Rattle.letters.specs.declared.Measured.{Measured}
 use Rattle.letters.specs.declared.Measured.the-variants.{Septets, Stopped}
@@ -42,7 +35,6 @@ use Rattle.stream.proofs.Sent.{low-narrow}
 use Rattle.stream.proofs.Theorems.{page-octets-length}
 use Rattle.demands.specs.MessageWritten.{notCodable}
 use Rattle.demands.proofs.Demands.{take-laid}
-use Rattle.demands.proofs.Steps.{coding-verdict, held-verdict, heldAs, told-text}
 use Rattle.pages.specs.declared.Counted.{Counted}
 use Rattle.pages.specs.declared.Counted.the-variants.{Pages, Refused}
 use Rattle.pages.specs.declared.Built.{Built}
@@ -84,24 +76,6 @@ sized-septets units h = simp (le-ltb (firstUnlisted units) (length units) h)
 pub sized-unlisted : (units : List ℕ) → firstUnlisted units < length units → sizedAs false units ≡ Refused (Unlisted (firstUnlisted units))
 unfolding sizedAs sizeRules verdict
 sized-unlisted units h = simp (lt-ltb (firstUnlisted units) (length units) h)
-
--- ---- what stands behind 8, 1, 2, 3
-
-module _ (service : Service) (r : Reading) (rest : List Rule) where
-  pub chosen-text : (coding : ℕ) (ucs2 : Bool) → octet-written.Done coding ≡ codingWrites service r → heldAs ucs2 ≡ holdsText service r
-      → verdict (codingRules service r ++ (textRules service r ++ rest)) ≡ verdict rest
-  chosen-text coding ucs2 e h =
-      verdict-accepted-first (codingRules service r) (textRules service r ++ rest) (coding-verdict service r (octet-written.Done coding) e)
-      ∙ verdict-accepted-first (textRules service r) rest (held-verdict service r (heldAs ucs2) h ∙ told-text ucs2)
-
-  pub chosen-none : (coding : ℕ) (q : Refusal) → octet-written.Done coding ≡ codingWrites service r → held.Refused q ≡ holdsText service r
-      → verdict (codingRules service r ++ (textRules service r ++ rest)) ≡ refused q
-  chosen-none coding q e h =
-      verdict-accepted-first (codingRules service r) (textRules service r ++ rest) (coding-verdict service r (octet-written.Done coding) e)
-      ∙ verdict-refused-first (textRules service r) rest q (held-verdict service r (held.Refused q) h)
-
-  pub chosen-refused : (q : Refusal) → octet-written.Refused q ≡ codingWrites service r → verdict (codingRules service r ++ (textRules service r ++ rest)) ≡ refused q
-  chosen-refused q e = verdict-refused-first (codingRules service r) (textRules service r ++ rest) q (coding-verdict service r (octet-written.Refused q) e)
 
 -- ---- a text as it is measured and encoded
 

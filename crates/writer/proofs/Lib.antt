@@ -1,3 +1,4 @@
 pub mod Settling
 pub mod Outcomes
 pub mod Refusing
+pub mod Chosen
