@@ -17,4 +17,10 @@ pub mod Joining
 pub mod RefusingAll
 pub mod Whole
 pub mod JoinExamples
+pub mod Lent
 pub mod WriteSteps
+pub mod Halves
+pub mod WriteJudged
+pub mod OrderSteps
+pub mod OpenRuns
+pub mod JoinSteps

@@ -307,3 +307,11 @@ octets-most p k = go (p .ucs2) refl
         → cond b (cond b (markSize (p .total) + 2 * partLength p k) (septetsOver (markSize (p .total)) + partLength p k)) (octetsFor (cond b (markSize (p .total) + 2 * partLength p k) (septetsOver (markSize (p .total)) + partLength p k))) ≤ 140
     go true e = omega (arith, room-units p e, length-most p k)
     go false e = omega (arith, room-septets p e, length-most p k)
+
+-- what is not laid as it stands is 7-bit
+pub septets-plan : (p : Plan) (t : List ℕ) → Cut p t → p .plain ≡ false → p .ucs2 ≡ false
+septets-plan p t c other = go (p .ucs2) refl
+  where
+    go : (b : Bool) → p .ucs2 ≡ b → b ≡ false
+    go true e = let z : true ≡ false = sym (c .units e) ∙ other in z
+    go false e = refl

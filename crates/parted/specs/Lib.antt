@@ -7,3 +7,5 @@ pub mod Joined
 pub mod Reports
 pub mod Inner
 pub mod Messages
+pub mod Ordered
+pub mod InnerJoined

@@ -92,3 +92,17 @@ pub enum PartsJoined {
     // Why it stored none.
     Refused(Refusal),
 }
+
+// Whether parts are those of one message.
+pub enum PartsJudged {
+    Right,
+    // Why they are not.
+    Refused(Refusal),
+}
+
+// What putting parts in order answers.
+pub struct PartOrder {
+    pub judged: PartsJudged,
+    // The reference that they share, and 0 where they are refused.
+    pub reference: u8,
+}
