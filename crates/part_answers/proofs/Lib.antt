@@ -1,0 +1,2 @@
+pub mod MostParts
+pub mod Outcomes
