@@ -1,6 +1,7 @@
 /*
  * wikuay.h: the text that mobile networks carry, by 3GPP TS 23.038, broadcasts of several pages, in the blocks of 3GPP
- * TS 23.041, and the room left while a text is typed. C99 and C++11, for x86-64 Linux.
+ * TS 23.041, short messages of several parts, behind the user data header of 3GPP TS 23.040, and the room left while a
+ * text is typed. C99 and C++11, for x86-64 Linux.
  *
  * Link libwikuay.a or libwikuay.so. Nothing is allocated, kept or printed; every call returns and may run in any
  * thread.
@@ -8,7 +9,7 @@
  * A call asks nothing of the values that it is given: it answers on every number, octet and unit. Of pointers and
  * lengths it asks what C asks, and nothing else:
  * - A pointer is not NULL, also where its length is 0, is aligned, and is valid for that many elements.
- * - The lent buffer `out` overlaps no input.
+ * - The lent buffers `out` and `sizes` overlap no input and not each other.
  * - No length is over PTRDIFF_MAX octets.
  *
  * Lengths and positions count elements: octets, septets or units. A septet is an octet of 0 to 127. A unit is a
@@ -16,10 +17,10 @@
  * A flag is a uint8_t of 0 or 1. The count is TP-UDL, and a coding octet is the data coding scheme (DCS).
  *
  * An answer with refusal 0 is a success: the result is the first `written` elements of `out`, and the rest of `out` is
- * as it came. Any other answer is a refusal: `out` is as it came, and so is a meter; written, count, coding, holds,
- * pages, sequence and identifier are 0, the octets of a block are 0, and the reading is WIKUAY_PLAIN. Each call names
- * its refusals in the order in which they are judged, and its clauses of TS 23.038. Every call is proved to answer so:
- * docs/OUTCOMES.md of the source names the theorems.
+ * as it came. Any other answer is a refusal: `out` is as it came, and so are `sizes` and a meter; written, count,
+ * coding, holds, pages, sequence, identifier, parts, mark, numbered, reference, total and number are 0, the octets of a
+ * block are 0, and the reading is WIKUAY_PLAIN. Each call names its refusals in the order in which they are judged, and
+ * its clauses of TS 23.038. Every call is proved to answer so: docs/OUTCOMES.md of the source names the theorems.
  */
 #ifndef WIKUAY_H
 #define WIKUAY_H
@@ -48,18 +49,18 @@ extern "C" {
 #define WIKUAY_REFUSED_COMPRESSED 1     /* compressed text */
 #define WIKUAY_REFUSED_NO_TEXT 2        /* the coding holds no text: 8-bit, WAP, I1, an old page's alphabet not 0 */
 #define WIKUAY_REFUSED_PREFIXED 3       /* the coding has the prefix mark, but on one page, or the header mark */
-#define WIKUAY_REFUSED_WRONG_LENGTH 4   /* octets do not fit the service or count, or are not whole blocks or units */
-#define WIKUAY_REFUSED_TOO_LONG 5       /* text over the service's size, behind letters or 15 pages; a meter's sum */
+#define WIKUAY_REFUSED_WRONG_LENGTH 4   /* octets do not fit the service or counts, or are not whole blocks or units */
+#define WIKUAY_REFUSED_TOO_LONG 5       /* text over its service, behind letters, 15 pages, 255 parts; a meter's sum */
 #define WIKUAY_REFUSED_UNLISTED 6       /* a unit is not in the alphabet; position: the first such unit */
-#define WIKUAY_REFUSED_NO_ROOM 7        /* the lent buffer is shorter than the result */
+#define WIKUAY_REFUSED_NO_ROOM 7        /* a lent buffer is shorter than the result */
 #define WIKUAY_REFUSED_UNWRITABLE 8     /* the reading cannot be written under the service; a number names nothing */
 #define WIKUAY_REFUSED_NO_SEPTET 9      /* a given septet is 128 or more; position: the first such septet */
-#define WIKUAY_REFUSED_WRONG_PAGES 10   /* pages or parts that are not those of one message; a page that it lacks */
+#define WIKUAY_REFUSED_WRONG_PAGES 10   /* pages or parts that are not those of one message; one that it lacks */
 #define WIKUAY_REFUSED_WRONG_LETTERS 11 /* a language letter is not a to z, or there is no CR behind them */
+#define WIKUAY_REFUSED_WRONG_HEADER 12  /* a user data header longer than its part, or an element of wrong length */
 /* Not given yet by any call. */
-#define WIKUAY_REFUSED_WRONG_HEADER 12 /* user data header */
-#define WIKUAY_REFUSED_NO_TABLE 13     /* no table for the language */
-#define WIKUAY_REFUSED_ILL_FORMED 14   /* ill-formed sequence or lone surrogate */
+#define WIKUAY_REFUSED_NO_TABLE 13   /* no table for the language */
+#define WIKUAY_REFUSED_ILL_FORMED 14 /* ill-formed sequence or lone surrogate */
 
 /* The constant's own name, and what the command prints. 0 is no refusal; another number is unknown. */
 static inline const char *wikuay_refusal_name(uint32_t refusal) {
@@ -118,15 +119,25 @@ static inline const char *wikuay_refusal_text(uint32_t refusal) {
 #define WIKUAY_USSD_OCTETS 160
 #define WIKUAY_OLD_PAGE_SEPTETS 93
 #define WIKUAY_OLD_PAGE_OCTETS 82 /* exactly */
-#define WIKUAY_MOST_OCTETS 160    /* room for what wikuay_pack and wikuay_write_message store */
+#define WIKUAY_MOST_OCTETS 160    /* room for what wikuay_pack, wikuay_write_message and wikuay_write_part store */
 #define WIKUAY_MOST_SEPTETS 182   /* room for what wikuay_unpack stores */
-#define WIKUAY_MOST_UNITS 182     /* room for what wikuay_read_message stores */
+#define WIKUAY_MOST_UNITS 182     /* room for what wikuay_read_message and wikuay_read_part store */
 
 /* Broadcasts of several pages. A page holds as much as one by itself: 93 septets or 41 units. */
 #define WIKUAY_BLOCK_OCTETS 88   /* exactly: six of the header and 82 of text */
 #define WIKUAY_MOST_PAGES 15
 #define WIKUAY_PAGES_OCTETS 1320 /* room for what wikuay_write_pages stores */
 #define WIKUAY_PAGES_UNITS 1395  /* room for what wikuay_join_pages stores */
+
+/* Short messages of several parts. A text that fits alone, 160 septets or 70 units, is one part without a header. In
+   front of every part of a longer one stands a header of 6 octets. wikuay_join_parts takes headers of other sizes too,
+   but none is smaller that says which part it is, so that no part holds more than here. */
+#define WIKUAY_PART_SEPTETS 153   /* of a part behind its header */
+#define WIKUAY_PART_UNITS 67      /* the same of UCS2 */
+#define WIKUAY_MOST_PARTS 255
+#define WIKUAY_PARTS_OCTETS 35700 /* room for what wikuay_write_parts stores */
+#define WIKUAY_PARTS_SIZES 510    /* room for the sizes beside them */
+#define WIKUAY_PARTS_UNITS 39015  /* room for what wikuay_join_parts stores */
 
 /* A meter counts up to so many septets: far more than a service holds, since it goes on below zero. */
 #define WIKUAY_METER_SEPTETS 65535
@@ -272,6 +283,39 @@ typedef struct {
   wikuay_reading reading; /* what the coding octet of every block says */
 } wikuay_join_answer;
 
+/* What a call answers that counts the parts of a text, or writes one or all of them. */
+typedef struct {
+  uint32_t refusal; /* 0, or a WIKUAY_REFUSED_.. number */
+  uint32_t parts;   /* how many parts the message has, 1 to WIKUAY_MOST_PARTS */
+  size_t position;  /* the unit of refusal 6, else 0 */
+  size_t written;   /* octets stored at the front of out, by wikuay_write_part and wikuay_write_parts, else 0 */
+  uint32_t count;   /* of the one part that wikuay_write_part writes: its length count (TP-UDL), else 0 */
+  uint8_t coding;   /* the data coding octet of every part, but 0 of wikuay_count_parts */
+  uint8_t mark;     /* 1 where a user data header stands in front of each part, else 0; 0 of wikuay_count_parts */
+} wikuay_parts_answer;
+
+/* What a call answers that reads one part. The numbers are told as they stand, and 0 where there are none. */
+typedef struct {
+  uint32_t refusal;       /* 0, or a WIKUAY_REFUSED_.. number */
+  uint8_t numbered;       /* 1 where the header gives the three numbers of a part, else 0 */
+  uint8_t reference;      /* the same for all parts of one message */
+  uint8_t total;          /* how many parts the message has */
+  uint8_t number;         /* which of them this is, from 1 */
+  size_t position;        /* 0, since no refusal of this call has a position */
+  size_t written;         /* units stored at the front of out */
+  wikuay_reading reading; /* what the coding octet says */
+} wikuay_part_answer;
+
+/* What a call answers that joins parts. */
+typedef struct {
+  uint32_t refusal;       /* 0, or a WIKUAY_REFUSED_.. number */
+  uint32_t parts;         /* how many parts the message has, 1 to WIKUAY_MOST_PARTS */
+  size_t position;        /* 0, since no refusal of this call has a position */
+  size_t written;         /* units stored at the front of out */
+  uint8_t reference;      /* the reference of every part */
+  wikuay_reading reading; /* what the coding octet says */
+} wikuay_parts_join_answer;
+
 /* A meter: one small record, kept while a text is typed. No text is kept, and a key takes the same time whatever was
    typed before. */
 typedef struct {
@@ -399,6 +443,59 @@ wikuay_pages_answer wikuay_write_pages(uint16_t sequence, uint16_t identifier, w
  * numbered 0 or above the total, or of differing headers or totals; 7. Stores units.
  */
 wikuay_join_answer wikuay_join_pages(const uint8_t *blocks, size_t blocks_len, uint16_t *out, size_t out_len);
+
+/*
+ * Reads one short message, or one part of a longer one: its text, what its coding octet says, and the three numbers of
+ * the part. The mark, 0 or 1, says whether a user data header stands in front; without it this is wikuay_read_message,
+ * and there are no numbers. count is the septets of 7-bit text, the octets of UCS2, and covers the header. Behind the
+ * header 7-bit text starts at the next septet boundary. Elements but that of the numbers are passed over, and of
+ * several the last counts. An escape that closes a part is a space here. Clauses 4 and 6, and 3GPP TS 23.040, clause
+ * 9.2.3.24.
+ * Refuses: 8 a mark that is neither 0 nor 1, 1, 2, 4 octets and count, 12 a header longer than the octets or, in
+ * septets, than the count, an element that runs past it, numbers that are not three octets; 4 UCS2 octets that are odd
+ * behind the header, 7. Stores units, at most 160.
+ */
+wikuay_part_answer wikuay_read_part(uint8_t coding, size_t count, uint8_t mark, const uint8_t *octets,
+                                    size_t octets_len, uint16_t *out, size_t out_len);
+
+/*
+ * How many parts a text takes under a reading: one where it fits alone, else as few as hold it. Clauses 4 and 6.
+ * Refuses: 8 a field that names nothing, a reading that cannot be written in a short message, a language letter; 1, 2,
+ * 6, 5 over 255 parts.
+ */
+wikuay_parts_answer wikuay_count_parts(wikuay_reading reading, const uint16_t *text, size_t text_len);
+
+/*
+ * Writes part number, from 1, of a text under a reading: every part but the last is full, and an escape may end one
+ * with its code on the next. A text that fits alone has no header, and its reference is nowhere. Clauses 4 and 6, and
+ * 3GPP TS 23.040, clause 9.2.3.24.
+ * Refuses: 8 a field that names nothing, a reading that cannot be written in a short message, a language letter; 1, 2,
+ * 6, 5 over 255 parts, 10 a part that the message lacks, 7. Stores octets, at most 140.
+ */
+wikuay_parts_answer wikuay_write_part(wikuay_reading reading, uint8_t reference, const uint16_t *text, size_t text_len,
+                                      size_t number, uint8_t *out, size_t out_len);
+
+/*
+ * Writes all parts of a text under a reading, their octets end to end in their order, as wikuay_write_part writes each.
+ * Beside them it stores two octets a part at the front of sizes: the part's length count and how many octets it has.
+ * What is behind these stays as it came. Clauses 4 and 6, and 3GPP TS 23.040, clause 9.2.3.24.
+ * Refuses: 8 a field that names nothing, a reading that cannot be written in a short message, a language letter; 1, 2,
+ * 6, 5 over 255 parts, 7 for either buffer. Stores octets and sizes.
+ */
+wikuay_parts_answer wikuay_write_parts(wikuay_reading reading, uint8_t reference, const uint16_t *text, size_t text_len,
+                                       uint8_t *out, size_t out_len, uint8_t *sizes, size_t sizes_len);
+
+/*
+ * Joins the parts of a message, lent end to end in any order beside a list of their counts in the same order: its text,
+ * what its coding octet says, and its reference. A header stands in front of each part; how many octets a part has
+ * follows from its count. Clauses 4 and 6, and 3GPP TS 23.040, clause 9.2.3.24.
+ * Refuses, each over all parts before the next: 1, 2, 4 a count over 160 septets or 140 octets, octets that are not as
+ * many as the counts ask; 12 as wikuay_read_part, 4 UCS2 octets that are odd behind a header, 10 no part, a part
+ * without the three numbers, missing, repeated, numbered 0 or above the total, or of differing references or totals; 7.
+ * Stores units.
+ */
+wikuay_parts_join_answer wikuay_join_parts(uint8_t coding, const uint8_t *counts, size_t counts_len,
+                                           const uint8_t *octets, size_t octets_len, uint16_t *out, size_t out_len);
 
 /*
  * A meter for a service, with nothing typed: the number to show is the service's size in septets of 7-bit text, from

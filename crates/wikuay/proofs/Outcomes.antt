@@ -33,6 +33,16 @@ use Rattle.wikuay.proofs.broadcasts.wikuay_write_pages.Kinds as write-p
 use Rattle.wikuay.proofs.broadcasts.wikuay_write_pages.Reads as write-pages
 use Rattle.wikuay.proofs.broadcasts.wikuay_join_pages.Kinds as join-pages-kinds
 use Rattle.wikuay.proofs.broadcasts.wikuay_join_pages.Reads as join-pages
+use Rattle.wikuay.proofs.long_messages.wikuay_read_part.Kinds as read-part-kinds
+use Rattle.wikuay.proofs.long_messages.wikuay_read_part.Reads as read-part
+use Rattle.wikuay.proofs.long_messages.wikuay_count_parts.Kinds as count-parts-kinds
+use Rattle.wikuay.proofs.long_messages.wikuay_count_parts.Reads as count-parts
+use Rattle.wikuay.proofs.long_messages.wikuay_write_part.Kinds as write-part-kinds
+use Rattle.wikuay.proofs.long_messages.wikuay_write_part.Reads as write-part
+use Rattle.wikuay.proofs.long_messages.wikuay_write_parts.Kinds as write-parts-kinds
+use Rattle.wikuay.proofs.long_messages.wikuay_write_parts.Reads as write-parts
+use Rattle.wikuay.proofs.long_messages.wikuay_join_parts.Kinds as join-parts-kinds
+use Rattle.wikuay.proofs.long_messages.wikuay_join_parts.Reads as join-parts
 use Rattle.wikuay.proofs.meters.wikuay_new_meter.Kinds as new-meter-kinds
 use Rattle.wikuay.proofs.meters.wikuay_new_meter.Reads as new-meter
 use Rattle.wikuay.proofs.meters.wikuay_room_left.Kinds as room-left-kinds
@@ -112,6 +122,36 @@ wikuay-join-pages-unique κs a x y u v p q = p .0 ∙ sym (q .0)
 
 pub wikuay-join-pages-buffer-unique : OneBuffer join-pages-kinds.ps join-pages-kinds.r (λ κs u. now (u .1 .0)) join-pages.Post
 wikuay-join-pages-buffer-unique κs a x y u v p q = p .1 ∙ sym (q .1)
+
+pub wikuay-read-part-unique : OneAnswer read-part-kinds.ps read-part-kinds.r read-part.Post
+wikuay-read-part-unique κs a x y u v p q = p .0 ∙ sym (q .0)
+
+pub wikuay-read-part-buffer-unique : OneBuffer read-part-kinds.ps read-part-kinds.r (λ κs u. now (u .1 .1 .1 .1 .0)) read-part.Post
+wikuay-read-part-buffer-unique κs a x y u v p q = p .1 ∙ sym (q .1)
+
+pub wikuay-count-parts-unique : OneAnswer count-parts-kinds.ps count-parts-kinds.r count-parts.Post
+wikuay-count-parts-unique κs a x y u v p q = p ∙ sym q
+
+pub wikuay-write-part-unique : OneAnswer write-part-kinds.ps write-part-kinds.r write-part.Post
+wikuay-write-part-unique κs a x y u v p q = p .0 ∙ sym (q .0)
+
+pub wikuay-write-part-buffer-unique : OneBuffer write-part-kinds.ps write-part-kinds.r (λ κs u. now (u .1 .1 .1 .1 .0)) write-part.Post
+wikuay-write-part-buffer-unique κs a x y u v p q = p .1 ∙ sym (q .1)
+
+pub wikuay-write-parts-unique : OneAnswer write-parts-kinds.ps write-parts-kinds.r write-parts.Post
+wikuay-write-parts-unique κs a x y u v p q = p .0 ∙ sym (q .0)
+
+pub wikuay-write-parts-buffer-unique : OneBuffer write-parts-kinds.ps write-parts-kinds.r (λ κs u. now (u .1 .1 .1 .0)) write-parts.Post
+wikuay-write-parts-buffer-unique κs a x y u v p q = p .1 .0 ∙ sym (q .1 .0)
+
+pub wikuay-write-parts-sizes-unique : OneBuffer write-parts-kinds.ps write-parts-kinds.r (λ κs u. now (u .1 .1 .1 .1 .0)) write-parts.Post
+wikuay-write-parts-sizes-unique κs a x y u v p q = p .1 .1 ∙ sym (q .1 .1)
+
+pub wikuay-join-parts-unique : OneAnswer join-parts-kinds.ps join-parts-kinds.r join-parts.Post
+wikuay-join-parts-unique κs a x y u v p q = p .0 ∙ sym (q .0)
+
+pub wikuay-join-parts-buffer-unique : OneBuffer join-parts-kinds.ps join-parts-kinds.r (λ κs u. now (u .1 .1 .1 .0)) join-parts.Post
+wikuay-join-parts-buffer-unique κs a x y u v p q = p .1 ∙ sym (q .1)
 
 pub wikuay-new-meter-unique : OneAnswer new-meter-kinds.ps new-meter-kinds.r new-meter.Post
 wikuay-new-meter-unique κs a x y u v p q = p ∙ sym q

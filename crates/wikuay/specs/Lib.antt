@@ -1,4 +1,5 @@
 pub mod Calls
 pub mod PageCalls
+pub mod PartCalls
 pub mod Refusing
 pub mod MeterCalls

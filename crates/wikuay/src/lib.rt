@@ -21,6 +21,7 @@ use words::Refusal;
 use words::Service;
 
 pub mod broadcasts;
+pub mod long_messages;
 pub mod meters;
 
 // The version of the library as one number, as the header has it.
