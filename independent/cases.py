@@ -17,6 +17,7 @@ LONGEST_LINE = 16384
 LARGEST_ROOM = 4096
 LARGEST_PAIR = 65535
 LARGEST_NUMBER = 4294967295
+MOST_UNITS = 40960
 
 
 class NotACase(Exception):
@@ -118,6 +119,17 @@ def parse_pair(value):
     return parse_number(value, LARGEST_PAIR)
 
 
+def parse_mark(value):
+    return parse_number(value, 1)
+
+
+def parse_times(value):
+    """A number from 1 on. How large it may be is the text's matter."""
+    if value == "0":
+        raise NotACase
+    return parse_number(value)
+
+
 def parse_signed(value):
     """A number, or - and one that is not 0: zero has no sign, so that it has one spelling."""
     if value == "-0":
@@ -149,6 +161,13 @@ def parse_block(value):
     return list(bytes.fromhex(value))
 
 
+def parse_numbers(value):
+    """Three octets, or none."""
+    if not re.fullmatch("-|[0-9A-F]{6}", value):
+        raise NotACase
+    return parse_elements(2)(value)
+
+
 def print_element(digits):
     return lambda element: "%0*X" % (digits, element)
 
@@ -165,10 +184,13 @@ KINDS = {
     "room": (parse_room, str),
     "pair": (parse_pair, str),
     "signed": (parse_signed, str),
+    "mark": (parse_mark, str),
+    "times": (parse_times, str),
     "octet": (parse_element(2), print_element(2)),
     "unit": (parse_element(4), print_element(4)),
     "octets": (parse_elements(2), print_elements(2)),
     "block": (parse_block, print_elements(2)),
+    "numbers": (parse_numbers, print_elements(2)),
     "text": (parse_elements(4), print_elements(4)),
     "reading": (parse_reading, print_reading),
 }
@@ -180,7 +202,8 @@ KINDS = {
 # A key's kind of value where it is not the key itself. The kind of `out` is given with each call.
 KIND_OF_KEY = {"coding": "octet", "septets": "octets", "refusal": "number", "position": "number", "written": "number",
                "count": "number", "total": "number", "pages": "number", "sequence": "pair", "identifier": "pair",
-               "used": "number", "left": "signed"}
+               "used": "number", "left": "signed", "parts": "number", "reference": "octet", "counts": "octets",
+               "sizes": "octets", "list": "room"}
 
 METER_ANSWER = "refusal position left service used"
 
@@ -209,11 +232,21 @@ CALLS = {name: (function, inputs.split(), answer.split(), out) for name, functio
     ("unit-added", wikuay.unit_added, "service used unit", METER_ANSWER, None),
     ("unit-taken-back", wikuay.unit_taken_back, "service used unit", METER_ANSWER, None),
     ("meter-cleared", wikuay.meter_cleared, "service used", METER_ANSWER, None),
+    ("read-part", wikuay.read_part, "coding count mark octets room",
+     "refusal position written reading numbers out", "text"),
+    ("count-parts", wikuay.count_parts, "reading text times", "refusal position parts", None),
+    ("write-part", wikuay.write_part, "reading reference text times number room",
+     "refusal position written mark count coding parts out", "octets"),
+    ("write-parts", wikuay.write_parts, "reading reference text times room list",
+     "refusal position written mark coding parts out sizes", "octets"),
+    ("join-parts", wikuay.join_parts, "coding counts octets room",
+     "refusal position written reading reference parts out", "text"),
 )}
 
 # What a refusal holds beside its number and position, but that of a meter, which answers for itself.
 REFUSED = {"written": 0, "count": 0, "coding": 0, "reading": wikuay.PLAIN, "holds": "none", "sequence": 0, "identifier": 0,
-           "pages": 0, "block": [0] * wikuay.BLOCK, "out": []}
+           "pages": 0, "parts": 0, "mark": 0, "numbers": [], "reference": 0, "block": [0] * wikuay.BLOCK, "sizes": [],
+           "out": []}
 
 FILLING = {"octets": 0xA5, "text": 0xA5A5}
 
@@ -249,9 +282,11 @@ def parse_case(line):
     if not re.fullmatch("[A-Za-z0-9._-]{1,64}", label) or call not in CALLS:
         raise NotACase
     colon = parts.index(":", 2)
-    _, inputs, answer, out_kind = CALLS[call]
-    return (label, call, parse_values(parts[2:colon], inputs, out_kind),
-            parse_values(parts[colon + 1:], answer, out_kind))
+    _, input_keys, answer_keys, out_kind = CALLS[call]
+    inputs = parse_values(parts[2:colon], input_keys, out_kind)
+    if "times" in inputs and len(inputs["text"]) * inputs["times"] > MOST_UNITS:
+        raise NotACase
+    return label, call, inputs, parse_values(parts[colon + 1:], answer_keys, out_kind)
 
 
 def print_case(label, call, inputs, answer):
@@ -271,23 +306,29 @@ def first_other(buffer, start, filling):
 
 
 def run_call(call, inputs):
-    """The whole answer, and the position of the first touched element behind the written ones, or None."""
+    """The whole answer, and what of each buffer was touched behind the written elements: the first position, under the word
+    that closes the line."""
     function, _, answer_keys, out_kind = CALLS[call]
-    given = {key: value for key, value in inputs.items() if key != "room"}
-    buffer = None
+    given = {key: value for key, value in inputs.items() if key not in ("room", "list", "times")}
+    if "times" in inputs:
+        given["text"] = inputs["text"] * inputs["times"]
     if out_kind:
-        buffer = [FILLING[out_kind]] * inputs["room"]
-        given["out"] = buffer
+        given["out"] = [FILLING[out_kind]] * inputs["room"]
+    if "list" in inputs:
+        given["sizes"] = [FILLING["octets"]] * inputs["list"]
     try:
         answer = {"refusal": 0, "position": 0, **function(**given)}
     except Refused as refused:
         answer = {**REFUSED, "refusal": refused.number, "position": refused.position}
-    touched = None
+    touched = {}
     if out_kind:
-        written = min(answer["written"], len(buffer))
-        answer["out"] = buffer[:written]
-        touched = first_other(buffer, written, FILLING[out_kind])
-    return {key: answer[key] for key in answer_keys}, touched
+        answer["out"] = given["out"][:answer["written"]]
+        touched["touched"] = first_other(given["out"], len(answer["out"]), FILLING[out_kind])
+    if "list" in inputs:
+        answer["sizes"] = given["sizes"][:2 * answer["parts"]]
+        touched["listed"] = first_other(given["sizes"], len(answer["sizes"]), FILLING["octets"])
+    return ({key: answer[key] for key in answer_keys},
+            {word: position for word, position in touched.items() if position is not None})
 
 
 def run_line(line, number):
@@ -299,12 +340,12 @@ def run_line(line, number):
     except NotACase:
         return "line %d: not a case" % number
     came, touched = run_call(call, inputs)
-    if came == expected and touched is None:
+    if came == expected and not touched:
         return None
     _, _, answer_keys, out_kind = CALLS[call]
     return "%s: expected %s; came %s%s" % (
         label, print_values(expected, answer_keys, out_kind), print_values(came, answer_keys, out_kind),
-        "" if touched is None else " touched=%d" % touched)
+        "".join(" %s=%d" % item for item in touched.items()))
 
 
 def run(lines, write):

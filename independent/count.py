@@ -7,7 +7,7 @@ import io
 
 import cases
 
-FILES = ("scope", "standard", "published", "limits", "damaged", "pages", "letters", "release9", "meter", "random")
+FILES = ("scope", "standard", "published", "limits", "damaged", "pages", "letters", "release9", "meter", "parts", "random")
 
 
 def table():

@@ -47,9 +47,8 @@ def wide_pages(text):
     return [list(bytes.fromhex(digits[at:at + 164])) for at in range(0, len(digits), 164)]
 
 
-def shown(septets):
-    """The text of joined septets: CRs at the end go, then each escape takes the septet behind it along."""
-    characters = "".join(map(chr, septets)).rstrip("\r")
+def spelled(characters):
+    """The text of septets, each given as the character of its number: an escape takes the one behind it along."""
     text = []
     for escape, behind, alone in re.findall("(\x1b)(.?)|([^\x1b])", characters, re.DOTALL):
         if not escape:
@@ -59,6 +58,11 @@ def shown(septets):
         else:
             text.append(EXTENSION.get(ord(behind), ALPHABET[ord(behind)]))
     return units(text)
+
+
+def shown(septets):
+    """The text of joined septets: CRs at the end go, then the rest is spelled."""
+    return spelled("".join(map(chr, septets)).rstrip("\r"))
 
 
 def without_end(text):

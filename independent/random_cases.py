@@ -3,9 +3,9 @@
 Lengths keep to both sides of the limits, and inputs are for the most part nearly right: a valid input with one thing
 changed reaches further into a call than noise does.
 
-The base, several pages, language letters, W3's codings and the meter have a stream each, so that a stream's cases do
-not change when another grows. The first three draw by the coding table of before W3: their inputs stay, and answers
-follow W3.
+The base, several pages, language letters, W3's codings, the meter and long short messages have a stream each, so that a
+stream's cases do not change when another grows. The first three draw by the coding table of before W3: their inputs
+stay, and answers follow W3.
 """
 
 import itertools
@@ -295,11 +295,16 @@ def earlier_inputs(call, inputs):
 
 
 def case_of(rng, label, call, inputs, earlier=True):
-    """The case of these inputs. A call that is lent a buffer gets a room around what it needs, or needed before W3."""
+    """The case of these inputs. A call that is lent a buffer gets a room around what it needs, or needed before W3; one that
+    is lent two has a room for each."""
     if "out" in CALLS[call][2]:
         inputs["room"] = LARGEST_ROOM
+        if "list" in CALLS[call][1]:
+            inputs["list"] = LARGEST_ROOM
         answer, _ = run_call(call, earlier_inputs(call, inputs) if earlier else inputs)
-        inputs["room"] = random_room(rng, answer["written"])
+        inputs["room"] = min(LARGEST_ROOM, random_room(rng, answer["written"]))
+        if "list" in inputs:
+            inputs["list"] = random_room(rng, 2 * answer["parts"])
     answer, _ = run_call(call, inputs)
     return print_case(label, call, inputs, answer)
 
@@ -643,6 +648,222 @@ def random_meter_case(rng, label):
 
 
 # ---------------------------------------------------------------------------------------------------------------------
+# Long short messages
+
+PART_WEIGHTS = {"read-part": 8, "count-parts": 3, "write-part": 4, "write-parts": 4, "join-parts": 9}
+
+# The lengths around what fits alone and around some numbers of parts, then around the most parts, which a text reaches
+# only where it is taken often.
+PART_SEPTETS = (0, 1, 7, 8, 152, 153, 159, 160, 160, 161, 161, 162, 305, 306, 307, 459, 460)
+PART_UNITS = (0, 1, 2, 66, 67, 69, 70, 70, 71, 71, 72, 133, 134, 135, 201, 202)
+MOST_SEPTETS = (4437, 4471, 4472, 38862, 38863, 39014, 39015, 39015, 39016, 39017)
+MOST_UNITS_OF_PARTS = (1943, 1958, 1959, 17018, 17019, 17084, 17085, 17085, 17086, 17087)
+
+
+def random_part_reading(rng):
+    """Most often a reading that holds text and has an octet; one that is refused 1 or 2 now and then."""
+    kind = rng.random()
+    if kind < 0.45:
+        return wikuay.PLAIN
+    if kind < 0.75:
+        return Reading(alphabet=wikuay.UCS2)
+    if kind < 0.78:
+        return Reading(alphabet=rng.choice((wikuay.SEVEN, wikuay.UCS2)), compressed=True)
+    if kind < 0.81:
+        return Reading(alphabet=wikuay.EIGHT)
+    if kind < 0.84:
+        return random_release9_reading(rng)
+    return random_reading(rng, wikuay.SMS)
+
+
+def random_repeated(rng, n, draw):
+    """A text of about n units as a shorter one, and how often it is taken."""
+    times = rng.choice((1, 2, 3, 5)) if n <= 600 else rng.choice((n // 150, n // 29, n // 8, n))
+    text = draw(rng, n // times)
+    return text, max(1, times if n % times == 0 or not text else n // len(text))
+
+
+def random_part_text(rng, reading):
+    kind = rng.random()
+    ucs2 = reading.alphabet == wikuay.UCS2
+    if kind < 0.15:
+        n = rng.choice(MOST_UNITS_OF_PARTS if ucs2 else MOST_SEPTETS)
+    elif kind < 0.75:
+        n = rng.choice(PART_UNITS if ucs2 else PART_SEPTETS)
+    else:
+        n = rng.randrange(0, 250 if ucs2 else 500)
+    return random_repeated(rng, n, random_ucs2_text if ucs2 else random_text)
+
+
+def random_element(rng):
+    """An element that says nothing here, most often a short one."""
+    identifier = rng.choice((0x01, 0x05, 0x08, 0x08, 0x70, 0xFF, rng.randrange(1, 256)))
+    return [identifier, *random_data(rng, rng.choice((0, 1, 1, 2, 3, 4, 4, rng.randrange(12))))]
+
+
+def random_data(rng, length):
+    """The length octet and so many octets."""
+    return [length] + [rng.randrange(256) for _ in range(length)]
+
+
+def random_header(rng, numbers):
+    """A header that says these numbers last, or none."""
+    elements = [random_element(rng) for _ in range(rng.choice((0, 0, 0, 1, 1, 2)))]
+    if numbers:
+        elements.insert(rng.randrange(len(elements) + 1), [wikuay.CONCATENATION, 3, *numbers])
+        if rng.random() < 0.2:
+            elements.insert(0, [wikuay.CONCATENATION, *random_data(rng, 3)])
+    body = [octet for element in elements for octet in element]
+    return [len(body)] + body
+
+
+def damaged_header(rng, header):
+    """The header with one thing made wrong, which may by chance still be right."""
+    header = list(header)
+    kind = rng.randrange(5)
+    if kind == 0:
+        header[0] = rng.choice((0, 1, max(0, header[0] - 1), header[0] + 1, 139, 140, 255, rng.randrange(256))) % 256
+    elif kind == 1:
+        at = rng.randrange(len(header))
+        header[at] = (header[at] + rng.choice((1, -1, 2, 128))) % 256
+    elif kind == 2:
+        header[rng.randrange(len(header))] = rng.choice((0, 0, 3, 255, rng.randrange(256)))
+    elif kind == 3:  # an identifier alone at the end
+        header += [rng.choice((0x00, 0x08, 0x70))]
+        header[0] += 1
+    else:  # an element 00 of another length in front
+        header[1:1] = [0x00, *random_data(rng, rng.choice((0, 1, 2, 4)))]
+        header[0] = len(header) - 1
+    return header
+
+
+def random_part(rng, alphabet, header, full):
+    """The count and the octets of a part with this header."""
+    first = wikuay.septets_before(len(header))
+    size = max(0, (140 - len(header)) // 2 if alphabet == wikuay.UCS2 else 160 - first)
+    n = size if full else min(size, rng.choice((0, 1, 2, 5, 8, size, rng.randrange(size + 1))))
+    if alphabet == wikuay.UCS2:
+        octets = header + wikuay.ucs2_octets(wikuay.SMS, random_ucs2_text(rng, n))
+        return len(octets), octets
+    septets = [rng.choice((0, 127))] * first + random_septets(rng, n)  # the fill bits are 0 or 1
+    octets = wikuay.packed(septets)
+    octets[:len(header)] = header
+    if rng.random() < 0.3:
+        octets = with_spare_bits(rng, len(septets), octets)
+    return len(septets), octets
+
+
+def random_part_coding(rng):
+    """Most often an octet that holds text, a reserved one among them."""
+    octet = rng.choice((0x00, 0x00, 0x00, 0x08, 0x08, 0x08, rng.randrange(256)))
+    reading = wikuay.reading_of(wikuay.SMS, octet)
+    if reading.compressed or reading.alphabet == wikuay.EIGHT:  # draw once more
+        octet = rng.randrange(256)
+    return octet, wikuay.reading_of(wikuay.SMS, octet).alphabet
+
+
+def random_numbers(rng):
+    total = rng.choice((1, 2, 3, 255, rng.randrange(256)))
+    return [rng.randrange(256), total, rng.choice((0, 1, max(1, total), rng.randrange(256)))]
+
+
+def random_read_part(rng):
+    coding, alphabet = random_part_coding(rng)
+    if rng.random() < 0.2:
+        octets, count = (random_ucs2_octets if alphabet == wikuay.UCS2 else random_seven_bit_octets)(rng, wikuay.SMS)
+        mark = 0
+    else:
+        header = random_header(rng, random_numbers(rng) if rng.random() < 0.85 else [])
+        if rng.random() < 0.3:
+            header = damaged_header(rng, header)
+        count, octets = random_part(rng, alphabet, header, rng.random() < 0.2)
+        mark = 1 if rng.random() < 0.95 else 0
+    if alphabet == wikuay.UCS2 and rng.random() < 0.1:  # odd, or over the limit
+        octets = octets + [rng.randrange(256)]
+        count += 1
+    if rng.random() < 0.15:
+        octets, count = damaged(rng, octets, count)
+    return {"coding": coding, "count": count, "mark": mark, "octets": octets}
+
+
+def damaged_numbers(rng, all_numbers):
+    """The numbers of parts with one thing made wrong, which may by chance still be right."""
+    all_numbers = [list(numbers) for numbers in all_numbers]
+    victim = rng.randrange(len(all_numbers))
+    kind = rng.randrange(6)
+    if kind == 0:
+        del all_numbers[victim]
+    elif kind == 1:
+        all_numbers.insert(rng.randrange(len(all_numbers) + 1), all_numbers[victim])
+    elif kind == 2:
+        all_numbers[victim][rng.randrange(3)] ^= 1 << rng.randrange(8)
+    elif kind == 3:
+        all_numbers[victim] = []
+    elif kind == 4:  # a part too many for the total, or one too few
+        total = len(all_numbers) + rng.choice((-1, 1))
+        all_numbers = [[reference, total, number] for reference, _, number in all_numbers]
+    else:
+        all_numbers[victim][2] = rng.choice((0, len(all_numbers) + 1, 255))
+    return all_numbers
+
+
+def random_join_parts(rng):
+    coding, alphabet = random_part_coding(rng)
+    total = rng.choice((1, 2, 2, 2, 3, 3, 4, 5, rng.randrange(1, 12)))
+    reference = rng.randrange(256)
+    all_numbers = [[reference, total, number] for number in range(1, total + 1)]
+    if rng.random() < 0.2:
+        all_numbers = damaged_numbers(rng, all_numbers)
+    headers = [random_header(rng, numbers) for numbers in all_numbers]
+    if headers and rng.random() < 0.1:
+        victim = rng.randrange(len(headers))
+        headers[victim] = damaged_header(rng, headers[victim])
+    full = rng.random() < 0.3
+    parts = [random_part(rng, alphabet, header, full) for header in headers]
+    if rng.random() < 0.7:
+        rng.shuffle(parts)
+    if parts and alphabet == wikuay.UCS2 and rng.random() < 0.05:
+        victim = rng.randrange(len(parts))
+        parts[victim] = (parts[victim][0] + 1, parts[victim][1] + [rng.randrange(256)])
+    counts = [min(count, 255) for count, _ in parts]
+    octets = [octet for _, part in parts for octet in part]
+    if rng.random() < 0.08:
+        kind = rng.randrange(3)
+        if kind == 0:
+            octets = octets + [0] if rng.random() < 0.5 else octets[:-1]
+        elif kind == 1 and counts:
+            victim = rng.randrange(len(counts))
+            counts[victim] = rng.choice((0, max(0, counts[victim] - 1), min(255, counts[victim] + 1), 160, 161, 255))
+        else:
+            counts = counts + [rng.choice((0, 1, 8))]
+    return {"coding": coding, "counts": counts, "octets": octets}
+
+
+def random_part_inputs(rng, call):
+    if call == "read-part":
+        return random_read_part(rng)
+    if call == "join-parts":
+        return random_join_parts(rng)
+    reading = random_part_reading(rng)
+    text, times = random_part_text(rng, reading)
+    inputs = {"reading": reading, "text": text, "times": times}
+    if call == "count-parts":
+        return inputs
+    inputs["reference"] = rng.choice((0, 1, 128, 255, rng.randrange(256), rng.randrange(256)))
+    if call == "write-part":
+        answer, _ = run_call("count-parts", {"reading": reading, "text": text, "times": times})
+        total = max(1, answer["parts"])
+        inputs["number"] = rng.choice((0, total + 1, 255, 256, 257, 4294967295) if rng.random() < 0.2 else
+                                      (1, total, rng.randrange(1, total + 1)))
+    return inputs
+
+
+def random_part_case(rng, label):
+    call = rng.choices(tuple(PART_WEIGHTS), tuple(PART_WEIGHTS.values()))[0]
+    return case_of(rng, label, call, random_part_inputs(rng, call), earlier=False)
+
+
+# ---------------------------------------------------------------------------------------------------------------------
 # The streams
 
 def base_cases(seed):
@@ -675,10 +896,17 @@ def meter_cases(seed):
         yield random_meter_case(rng, "random-meter-%d-%d" % (seed, n))
 
 
+def part_cases(seed):
+    rng = random.Random("parts %d" % seed)
+    for n in itertools.count(1):
+        yield random_part_case(rng, "random-parts-%d-%d" % (seed, n))
+
+
 def random_cases(number, seed):
-    """All streams, mixed: each fourth case is one of several pages, of language letters, of Release 9 or of a meter, in
-    turn."""
+    """All streams, mixed: each fourth case is one of several pages, of language letters, of Release 9, of a meter or of a
+    long short message, in turn."""
     base = base_cases(seed)
-    requests = itertools.cycle((page_cases(seed), letters_cases(seed), release9_cases(seed), meter_cases(seed)))
+    requests = itertools.cycle((page_cases(seed), letters_cases(seed), release9_cases(seed), meter_cases(seed),
+                                part_cases(seed)))
     for n in range(1, number + 1):
         yield next(base if n % 4 else next(requests))

@@ -16,18 +16,20 @@ import letters
 import limits
 import meter
 import pages
+import parts
 import published
 import release9
 import standard
-from random_cases import base_cases, letters_cases, meter_cases, page_cases, release9_cases
+from random_cases import base_cases, letters_cases, meter_cases, page_cases, part_cases, release9_cases
 
 RANDOM_SEED = 23038
 
 # Each stream and how many of its cases are taken. A later stream stands behind, so that every line keeps its place.
-RANDOM_STREAMS = ((base_cases, 3000), (page_cases, 500), (letters_cases, 400), (release9_cases, 300), (meter_cases, 300))
+RANDOM_STREAMS = ((base_cases, 3000), (page_cases, 500), (letters_cases, 400), (release9_cases, 300), (meter_cases, 300),
+                  (part_cases, 400))
 
 RANDOM_HEADER = """\
-# Random cases, %d of the base and %d, %d, %d, %d of W1 to W4: the first of each of cases.py --random 8000 --seed %d
+# Random cases, %d of the base and %d, %d, %d, %d, %d of W1 to W5: the first of each of cases.py --random 10000 --seed %d
 # Every answer comes from the second implementation. These lines show that two programs agree, and not which is right.
 
 """ % (*(number for _, number in RANDOM_STREAMS), RANDOM_SEED)
@@ -42,7 +44,7 @@ def random_file():
 
 WRITERS = {"standard": standard.main, "published": published.main, "limits": limits.main, "damaged": damaged.main,
            "pages": pages.main, "letters": letters.main, "release9": release9.main, "meter": meter.main,
-           "random": random_file}
+           "parts": parts.main, "random": random_file}
 
 
 def written_by(writer):

@@ -137,6 +137,77 @@ class Format(unittest.TestCase):
         line = "t read-header block=0001FF000F21%s : sequence=1 identifier=65280 coding=0F total=1 number=2" % ("00" * 82)
         self.assertEqual(run(line.encode()), "1 cases, 0 differ\n")
 
+    def test_marks_times_and_numbers(self):
+        parse, spell = cases.KINDS["mark"]
+        for value in ("0", "1"):
+            self.assertEqual(parse(value), int(value))
+            self.assertEqual(spell(int(value)), value)
+        for value in ("2", "-", "", "00", "01", "+1", "true"):
+            self.assertRaises(cases.NotACase, parse, value)
+        parse, spell = cases.KINDS["times"]
+        for value in ("1", "255", "40960", "4294967295"):
+            self.assertEqual(parse(value), int(value))
+            self.assertEqual(spell(int(value)), value)
+        for value in ("0", "-", "", "01", "-1", "4294967296"):
+            self.assertRaises(cases.NotACase, parse, value)
+        parse, spell = cases.KINDS["numbers"]
+        for value, numbers in (("-", []), ("000000", [0, 0, 0]), ("C70201", [0xC7, 2, 1]), ("FFFFFF", [255, 255, 255])):
+            self.assertEqual(parse(value), numbers)
+            self.assertEqual(spell(numbers), value)
+        for value in ("", "C7", "C702", "C7020", "C7020101", "c70201", "--"):
+            self.assertRaises(cases.NotACase, parse, value)
+
+    def test_a_text_is_taken_times(self):
+        for text, times, parts in (("0041", 160, 1), ("0041", 161, 2), ("00410042", 80, 1), ("00410042", 81, 2),
+                                   ("20AC", 80, 1), ("20AC", 81, 2), ("-", 1, 1), ("-", 4294967295, 1)):
+            line = "t count-parts reading=plain text=%s times=%d : refusal=0 position=0 parts=%d" % (text, times, parts)
+            self.assertEqual(run(line.encode()), "1 cases, 0 differ\n")
+        line = "t count-parts reading=plain text=%s times=%d : refusal=5 position=0 parts=0"
+        self.assertEqual(run((line % ("0041", 40960)).encode()), "1 cases, 0 differ\n")
+        for text, times in (("0041", 40961), ("00410042", 20481), ("004100420043", 13654), ("0041", 4294967295)):
+            self.assertEqual(run((line % (text, times)).encode()), "line 1: not a case\n1 cases, 1 differ\n")
+
+    def test_the_second_buffer(self):
+        line = (b"t write-parts reading=plain reference=07 text=0041 times=1 room=3 list=4 : "
+                b"refusal=0 position=0 written=1 mark=0 coding=00 parts=1 out=41 sizes=0101\n")
+        self.assertEqual(run(line), "1 cases, 0 differ\n")
+        same = "refusal=0 position=0 written=1 mark=0 coding=00 parts=%d out=41 sizes=%s"
+
+        def careless(out_at, sizes_at, parts=1):
+            def write(reading, reference, text, out, sizes):
+                out[0], sizes[:2] = 0x41, [1, 1]
+                for buffer, at in ((out, out_at), (sizes, sizes_at)):
+                    if at is not None:
+                        buffer[at] = 0
+                return {"written": 1, "mark": 0, "coding": 0, "parts": parts}
+            return write
+
+        good = cases.CALLS["write-parts"]
+        try:
+            for out_at, sizes_at, parts, came, closing in (
+                    (None, 2, 1, "0101", " listed=2"), (None, 3, 1, "0101", " listed=3"), (1, None, 1, "0101", " touched=1"),
+                    (2, 3, 1, "0101", " touched=2 listed=3"), (None, 3, 2, "0101A500", ""), (None, None, 2, "0101A5A5", ""),
+                    (None, None, 9, "0101A5A5", ""), (None, None, 0, "-", " listed=0")):
+                cases.CALLS["write-parts"] = (careless(out_at, sizes_at, parts),) + good[1:]
+                self.assertEqual(run(line), "t: expected %s; came %s%s\n1 cases, 1 differ\n" % (
+                    same % (1, "0101"), same % (parts, came), closing))
+        finally:
+            cases.CALLS["write-parts"] = good
+
+    def test_a_refusal_leaves_both_buffers(self):
+        def careless(reading, reference, text, out, sizes):
+            sizes[0] = 1
+            raise wikuay.Refused(7)
+
+        good = cases.CALLS["write-parts"]
+        cases.CALLS["write-parts"] = (careless,) + good[1:]
+        try:
+            answer = "refusal=7 position=0 written=0 mark=0 coding=00 parts=0 out=- sizes=-"
+            line = "t write-parts reading=plain reference=07 text=0041 times=1 room=0 list=4 : " + answer
+            self.assertEqual(run(line.encode()), "t: expected %s; came %s listed=0\n1 cases, 1 differ\n" % (answer, answer))
+        finally:
+            cases.CALLS["write-parts"] = good
+
     def test_longest_line(self):
         line = b"t text-to-septets text=%s room=0 : refusal=6 position=0 written=0 out=-" % (b"4E2D" * 4078)
         line = b"t" * (16384 - len(line)) + line
@@ -146,12 +217,13 @@ class Format(unittest.TestCase):
 
 class Random(unittest.TestCase):
     def test_each_fourth_case_is_one_of_a_request(self):
-        labels = [line.split(" ", 1)[0] for line in random_cases.random_cases(20, 7)]
+        labels = [line.split(" ", 1)[0] for line in random_cases.random_cases(24, 7)]
         self.assertEqual(labels, ["random-7-1", "random-7-2", "random-7-3", "random-pages-7-1",
                                   "random-7-4", "random-7-5", "random-7-6", "random-letters-7-1",
                                   "random-7-7", "random-7-8", "random-7-9", "random-release9-7-1",
                                   "random-7-10", "random-7-11", "random-7-12", "random-meter-7-1",
-                                  "random-7-13", "random-7-14", "random-7-15", "random-pages-7-2"])
+                                  "random-7-13", "random-7-14", "random-7-15", "random-parts-7-1",
+                                  "random-7-16", "random-7-17", "random-7-18", "random-pages-7-2"])
 
     def test_the_streams_of_before_draw_no_word_of_release_9(self):
         for stream in (random_cases.base_cases, random_cases.page_cases, random_cases.letters_cases):
@@ -161,9 +233,24 @@ class Random(unittest.TestCase):
                                  or reading.language in wikuay.MORE_LANGUAGES[1:], line)
 
     def test_all_calls_come(self):
-        came = {line.split(" ")[1] for line in random_cases.random_cases(600, 1)}
+        came = {line.split(" ")[1] for line in random_cases.random_cases(1000, 1)}
         self.assertEqual(came, set(cases.CALLS))
 
+    def test_parts_are_accepted_and_refused(self):
+        """Every refusal of every call comes, both marks, long texts, repeated elements and headers of every remainder."""
+        lines = list(itertools.islice(random_cases.part_cases(7), 3000))
+        self.assertLessEqual(max(map(len, lines)), cases.LONGEST_LINE)
+        given = [cases.parse_case(line)[1:] for line in lines]
+        for call, numbers in (("read-part", (0, 1, 2, 4, 7, 12)), ("count-parts", (0, 1, 2, 5, 6, 8)),
+                              ("write-part", (0, 1, 2, 5, 6, 7, 8, 10)), ("write-parts", (0, 1, 2, 5, 6, 7, 8)),
+                              ("join-parts", (0, 1, 2, 4, 7, 10, 12))):
+            self.assertEqual({answer["refusal"] for name, _, answer in given if name == call}, set(numbers))
+        read = [(inputs, answer) for name, inputs, answer in given if name == "read-part" and answer["refusal"] == 0]
+        self.assertEqual({inputs["mark"] for inputs, _ in read}, {0, 1})
+        self.assertEqual({inputs["octets"][0] % 7 for inputs, _ in read if inputs["mark"]}, set(range(7)))
+        self.assertEqual({len(answer["numbers"]) for _, answer in read}, {0, 3})
+        self.assertIn(255, {answer["parts"] for name, _, answer in given if name == "count-parts"})
+        self.assertGreater(len({answer["parts"] for name, _, answer in given if name == "join-parts"}), 8)
 
     def test_units_and_sums_of_the_meter(self):
         """Every width and every refusal comes, and the sums are near each limit."""

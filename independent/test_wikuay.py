@@ -1,4 +1,4 @@
-"""Unit tests of the second implementation against document 01 and W1 to W4 of document 02.
+"""Unit tests of the second implementation against document 01 and W1 to W5 of document 02.
 
     python3 -m unittest discover independent
 
@@ -885,6 +885,286 @@ class RoomLeft(Case):
             came.update(self.random_keys(service, [A] * (self.SIZES[service] - 5), 200, seed))
             came.update(self.random_keys(service, [EURO] * 32766 + [A], 25, seed))
         self.assertEqual(came, {0, 5, 6})
+
+
+# Headers of the first and the second of two parts, and seven octets: the fill bit, and "A" or "B" behind it.
+FIRST, SECOND = octets("050003C70201"), octets("050003C70202")
+FIRST_A, SECOND_B = FIRST + [0x82], SECOND + [0x84]
+
+
+class UserDataHeaders(Case):
+    def reads(self, header, numbers):
+        """The header stands in front of 4E2D, as UCS2."""
+        self.accepts(wikuay.read_part, 0x08, len(header) + 2, 1, header + [0x4E, 0x2D], room=2, out=[HAN], reading=UCS2,
+                     numbers=numbers)
+
+    def lacks(self, header):
+        self.refuses(12, 0, wikuay.read_part, 0x08, len(header) + 2, 1, header + [0x4E, 0x2D], room=2)
+
+    def test_the_element(self):
+        self.reads(FIRST, [0xC7, 2, 1])
+        self.reads([0], [])
+        for numbers in ([0, 0, 0], [1, 0, 1], [1, 2, 0], [1, 2, 3], [255, 255, 255]):
+            self.reads([5, 0, 3] + numbers, numbers)
+
+    def test_unknown_elements_are_passed_over(self):
+        self.reads(octets("027000"), [])
+        self.reads(octets("06080401020304"), [])
+        self.reads(octets("050803C70201"), [])
+        self.reads(octets("0B08040102030400030A0B0C"), [10, 11, 12])
+        self.reads(octets("0B00030A0B0C080401020304"), [10, 11, 12])
+        self.reads(octets("0770050003C70201"), [])
+
+    def test_the_last_of_a_repeated_element_counts(self):
+        self.reads(octets("0A00030102030003040506"), [4, 5, 6])
+        self.reads(octets("0A00030405060003010203"), [1, 2, 3])
+        self.reads(octets("0F000301020370030A0A0A0003040506"), [4, 5, 6])
+
+    def test_elements_of_wrong_length(self):
+        for header in ("020000", "03000101", "0400020101", "06000401010101", "0700000003010203", "0700030102030000",
+                       "080001010003010203", "080003010203000101"):
+            self.lacks(octets(header))
+
+    def test_elements_past_the_header(self):
+        for header in ("0100", "0170", "027001", "0270FF", "050004010203", "057004010203", "03700070", "06000301020370",
+                       "06000301020300"):
+            self.lacks(octets(header))
+
+    def test_the_header_is_longer_than_the_octets(self):
+        for length in (7, 8, 127, 128, 255):
+            self.refuses(12, 0, wikuay.read_part, 0x08, 7, 1, [length] + [0x70, 0] * 3, room=9)
+        self.accepts(wikuay.read_part, 0x08, 7, 1, [6] + [0x70, 0] * 3, room=9, out=[], reading=UCS2, numbers=[])
+        self.refuses(12, 0, wikuay.read_part, 0x00, 0, 1, [], room=9)
+        self.refuses(12, 0, wikuay.read_part, 0x08, 0, 1, [], room=9)
+
+    def test_the_header_is_longer_than_the_count(self):
+        """A header of 7 octets takes 8 septets, though 7 septets take 7 octets too; one of 6 takes 7 septets, not 6."""
+        seven = octets("06700401020304")
+        self.accepts(wikuay.read_part, 0x00, 8, 1, seven, room=9, out=[], reading=PLAIN, numbers=[])
+        self.refuses(12, 0, wikuay.read_part, 0x00, 7, 1, seven, room=9)
+        self.accepts(wikuay.read_part, 0x00, 7, 1, FIRST + [0x00], room=9, out=[], reading=PLAIN, numbers=[0xC7, 2, 1])
+        self.refuses(12, 0, wikuay.read_part, 0x00, 6, 1, FIRST, room=9)
+
+
+class ReadingParts(Case):
+    def reads(self, coding, count, part, text, reading=PLAIN, numbers=(), mark=1):
+        self.accepts(wikuay.read_part, coding, count, mark, part, room=len(text) + 1, out=text, reading=reading,
+                     numbers=list(numbers))
+
+    def test_text_starts_at_the_next_septet(self):
+        self.reads(0x00, 8, FIRST_A, [A], numbers=[0xC7, 2, 1])
+        # Headers of 1, 3, 4, 5 and 7 octets, behind which 6, 4, 3, 2 and no fill bits stand, "A", and spare bits. Fill bits
+        # and spare bits are set.
+        for part, count in (("007FF0", 3), ("0270001FFC", 5), ("037001090FFE", 6), ("047002090907FF", 7),
+                            ("06700401020304C1", 9)):
+            self.reads(0x00, count, octets(part), [A])
+
+    def test_fill_bits_and_spare_bits_are_ignored(self):
+        self.reads(0x00, 8, FIRST + [0x83], [A], numbers=[0xC7, 2, 1])
+        self.reads(0x00, 9, FIRST + [0x82, 0x42], [A, A + 1], numbers=[0xC7, 2, 1])
+        self.reads(0x00, 9, FIRST + [0x83, 0xC2], [A, A + 1], numbers=[0xC7, 2, 1])
+
+    def test_the_count_covers_the_header(self):
+        self.reads(0x00, 7, FIRST_A, [], numbers=[0xC7, 2, 1])
+        self.refuses(4, 0, wikuay.read_part, 0x00, 1, 1, FIRST_A, room=9)
+        self.reads(0x00, 160, FIRST + [0] * 134, [0x40] * 153, numbers=[0xC7, 2, 1])
+        self.refuses(4, 0, wikuay.read_part, 0x00, 161, 1, FIRST + [0] * 135, room=200)
+
+    def test_ucs2(self):
+        self.reads(0x08, 140, FIRST + [0x4E, 0x2D] * 67, [HAN] * 67, UCS2, [0xC7, 2, 1])
+        self.reads(0x08, 3, octets("004E2D"), [HAN], UCS2)
+        for part in (FIRST + [0x4E], [0, 0x4E], FIRST + [0x4E, 0x2D, 0x4E]):
+            self.refuses(4, 0, wikuay.read_part, 0x08, len(part), 1, part, room=9)
+        self.refuses(4, 0, wikuay.read_part, 0x08, 8, 1, FIRST + [0x4E], room=9)
+        self.refuses(4, 0, wikuay.read_part, 0x08, 141, 1, [0] + [0x4E, 0x2D] * 70, room=99)
+
+    def test_escapes(self):
+        # 1B behind the fill bit is 36, and 65 takes the octet behind it.
+        self.reads(0x00, 9, FIRST + [0x36, 0x65], [EURO], numbers=[0xC7, 2, 1])
+        self.reads(0x00, 8, FIRST + [0x36], units(" "), numbers=[0xC7, 2, 1])
+
+    def test_without_the_mark(self):
+        self.reads(0x00, 2, octets("4121"), units("AB"), mark=0)
+        self.reads(0x00, 0, [], [], mark=0)
+        self.reads(0x08, 6, FIRST, [0x0500, 0x03C7, 0x0201], UCS2, mark=0)
+        self.refuses(4, 0, wikuay.read_part, 0x08, 3, 0, octets("004E2D"), room=9)
+        self.refuses(1, 0, wikuay.read_part, 0x24, 9, 0, [255], room=0)
+        self.refuses(2, 0, wikuay.read_part, 0x04, 9, 0, [255], room=0)
+        self.refuses(4, 0, wikuay.read_part, 0x00, 9, 0, [255], room=0)
+        self.refuses(7, 0, wikuay.read_part, 0x00, 1, 0, [255], room=0)
+
+    def test_a_reserved_coding_is_read(self):
+        self.reads(0x80, 8, FIRST_A, [A], RESERVED, [0xC7, 2, 1])
+
+    def test_refusals_in_order(self):
+        read, wrong = wikuay.read_part, octets("040002C702")
+        self.refuses(1, 0, read, 0x24, 9, 1, wrong, room=0)
+        self.refuses(2, 0, read, 0x04, 9, 1, wrong, room=0)
+        self.refuses(4, 0, read, 0x08, 9, 1, wrong, room=0)
+        self.refuses(12, 0, read, 0x08, 6, 1, wrong + [0x4E], room=0)
+        self.refuses(4, 0, read, 0x08, 7, 1, FIRST + [0x4E], room=0)
+        self.refuses(7, 0, read, 0x00, 8, 1, FIRST_A, room=0)
+
+
+class WritingParts(Case):
+    def counts(self, reading, text, parts):
+        self.assertEqual(wikuay.count_parts(reading, text), {"parts": parts})
+
+    def writes(self, reading, text, number, parts, count, out, coding=0x00):
+        self.accepts(wikuay.write_part, reading, 0xC7, text, number, room=len(out) + 1, out=out,
+                     mark=1 if parts > 1 else 0, count=count, coding=coding, parts=parts)
+
+    def writes_all(self, reading, text, out, sizes, coding=0x00):
+        """Both buffers hold what is written, and are left alone behind it."""
+        octets_lent, sizes_lent = ["untouched"] * (len(out) + 1), ["untouched"] * (len(sizes) + 1)
+        came = wikuay.write_parts(reading, 0xC7, text, octets_lent, sizes_lent)
+        parts = len(sizes) // 2
+        self.assertEqual(came, {"written": len(out), "mark": 1 if parts > 1 else 0, "coding": coding, "parts": parts})
+        self.assertEqual((octets_lent, sizes_lent), (out + ["untouched"], sizes + ["untouched"]))
+
+    def test_numbers_of_parts(self):
+        for n, parts in ((0, 1), (160, 1), (161, 2), (306, 2), (307, 3), (38862, 254), (38863, 255), (39015, 255)):
+            self.counts(PLAIN, [A] * n, parts)
+        self.refuses(5, 0, wikuay.count_parts, PLAIN, [A] * 39016)
+        for n, parts in ((0, 1), (70, 1), (71, 2), (134, 2), (135, 3), (17018, 254), (17019, 255), (17085, 255)):
+            self.counts(UCS2, [HAN] * n, parts)
+        self.refuses(5, 0, wikuay.count_parts, UCS2, [HAN] * 17086)
+
+    def test_septets_count_and_not_units(self):
+        for n, parts in ((80, 1), (81, 2), (153, 2), (154, 3), (19507, 255)):
+            self.counts(PLAIN, [EURO] * n, parts)
+        self.refuses(5, 0, wikuay.count_parts, PLAIN, [EURO] * 19508)
+
+    def test_a_lone_text_has_no_header(self):
+        self.writes(PLAIN, units("AB"), 1, 1, 2, octets("4121"))
+        self.writes(PLAIN, [], 1, 1, 0, [])
+        self.writes(UCS2, [HAN] * 70, 1, 1, 140, [0x4E, 0x2D] * 70, 0x08)
+        self.writes(Reading(message_class="class1"), [EURO], 1, 1, 2, octets("9B32"), 0x11)
+        self.writes_all(PLAIN, units("AB"), octets("4121"), [2, 2])
+        self.writes_all(PLAIN, [], [], [0, 0])
+
+    def test_seven_bit(self):
+        # "A" is septet 14 of the second part: its lowest bit is bit 98, and its highest 104.
+        self.writes(PLAIN, [0x40] * 153 + [A] * 8, 1, 2, 160, FIRST + [0] * 134)
+        self.writes(PLAIN, [0x40] * 160 + [A], 2, 2, 15, SECOND + [0] * 6 + [0x04, 0x01])
+        self.writes(PLAIN, [0x40] * 306 + [A], 3, 3, 8, octets("050003C7030382"))
+        self.writes_all(PLAIN, [0x40] * 306 + [A], octets("050003C70301") + [0] * 134 + octets("050003C70302") + [0] * 134
+                        + octets("050003C7030382"), [160, 140, 160, 140, 8, 7])
+
+    def test_an_escape_ends_a_part(self):
+        # The escape takes the last octet but its lowest bit. Its code stands behind the second part's fill bit.
+        self.writes(PLAIN, [0x40] * 152 + [EURO] + [0x40] * 9, 1, 2, 160, FIRST + [0] * 133 + [0x36])
+        self.writes(PLAIN, [0x40] * 152 + [EURO] + [0x40] * 7, 2, 2, 15, SECOND + [0xCA] + [0] * 7)
+
+    def test_ucs2(self):
+        self.writes(UCS2, [HAN] * 71, 1, 2, 140, FIRST + [0x4E, 0x2D] * 67, 0x08)
+        self.writes(UCS2, [HAN] * 71, 2, 2, 14, SECOND + [0x4E, 0x2D] * 4, 0x08)
+        self.writes_all(UCS2, [HAN] * 71, FIRST + [0x4E, 0x2D] * 67 + SECOND + [0x4E, 0x2D] * 4, [140, 140, 14, 14], 0x08)
+
+    def test_the_most_parts(self):
+        self.writes(PLAIN, [0x40] * 39015, 255, 255, 160, octets("050003C7FFFF") + [0] * 134)
+        self.writes(UCS2, [HAN] * 17085, 128, 255, 140, octets("050003C7FF80") + [0x4E, 0x2D] * 67, 0x08)
+
+    def test_parts_that_the_message_lacks(self):
+        for number in (0, 3, 255, 256, 258, 65537, 4294967295):
+            self.refuses(10, 0, wikuay.write_part, PLAIN, 7, [A] * 161, number, room=140)
+        for number in (0, 2):
+            self.refuses(10, 0, wikuay.write_part, PLAIN, 7, [A], number, room=140)
+
+    def test_rooms(self):
+        self.refuses(7, 0, wikuay.write_part, UCS2, 7, [HAN] * 71, 1, room=139)
+        self.refuses(7, 0, wikuay.write_part, UCS2, 7, [HAN] * 71, 2, room=13)
+        for out, sizes in ((153, 4), (154, 3), (153, 3), (0, 0)):
+            lent = ["untouched"] * out, ["untouched"] * sizes
+            self.refuses(7, 0, wikuay.write_parts, UCS2, 7, [HAN] * 71, *lent)
+            self.assertEqual(lent, (["untouched"] * out, ["untouched"] * sizes))
+        self.refuses(7, 0, wikuay.write_parts, PLAIN, 7, [], [], [0])
+
+    def test_refusals_in_order(self):
+        text = [A] * 39016 + [HAN]
+        for reading, number, position in ((Reading(compressed=True, language="german"), 8, 0),
+                                          (PLAIN._replace(letter1=0x65), 8, 0), (RESERVED, 8, 0),
+                                          (Reading(prefix=True), 8, 0), (Reading(message_class="class0", header=True), 8, 0),
+                                          (Reading(alphabet="8bit", compressed=True), 1, 0),
+                                          (Reading(alphabet="8bit"), 2, 0), (PLAIN, 6, 39016), (UCS2, 5, 0)):
+            self.refuses(number, position, wikuay.count_parts, reading, text)
+            self.refuses(number, position, wikuay.write_part, reading, 7, text, 0, room=0)
+            self.refuses(number, position, wikuay.write_parts, reading, 7, text, [], [])
+        self.refuses(5, 0, wikuay.write_part, PLAIN, 7, text[:-1], 0, room=0)
+        self.refuses(10, 0, wikuay.write_part, PLAIN, 7, [A], 0, room=0)
+
+
+class JoiningParts(Case):
+    def joins(self, counts, parts, text, coding=0x00, reading=PLAIN, reference=0xC7):
+        self.accepts(wikuay.join_parts, coding, counts, sum(parts, []), room=len(text) + 1, out=text, reading=reading,
+                     reference=reference, parts=len(counts))
+
+    def lacks(self, counts, parts, number=10, coding=0x00):
+        self.refuses(number, 0, wikuay.join_parts, coding, counts, sum(parts, []), room=200)
+
+    def test_any_order(self):
+        self.joins([8, 8], [FIRST_A, SECOND_B], units("AB"))
+        self.joins([8, 8], [SECOND_B, FIRST_A], units("AB"))
+        parts = [octets("050003C703%02X%02X" % (number, 0x80 + 2 * number)) for number in (1, 2, 3)]
+        for at in ((0, 1, 2), (0, 2, 1), (1, 0, 2), (1, 2, 0), (2, 0, 1), (2, 1, 0)):
+            self.joins([8] * 3, [parts[number] for number in at], units("ABC"))
+
+    def test_escapes(self):
+        self.joins([8, 8], [SECOND + [0xCA], FIRST + [0x36]], [EURO])
+        self.joins([8, 8], [FIRST + [0x36], SECOND + [0x36]], units(" "))
+        self.joins([8, 9], [FIRST + [0x36], SECOND + [0x36, 0x65]], units(" e"))
+        self.joins([8, 7], [FIRST + [0x36], SECOND + [0x00]], units(" "))
+
+    def test_parts_need_not_be_full_nor_alike(self):
+        self.joins([7, 7], [FIRST + [0], SECOND + [0]], [])
+        # An element of two octets in front: 8 octets, which take 10 septets and leave 6 fill bits.
+        self.joins([11, 8], [octets("0770000003C702014010"), SECOND_B], units("AB"))
+        self.joins([8], [octets("05000305010182")], [A], reference=5)
+
+    def test_ucs2(self):
+        parts = [SECOND + [0x4E, 0x2E], FIRST + [0x4E, 0x2D]]
+        self.joins([8, 8], parts, [HAN, HAN + 1], 0x08, UCS2)
+        self.lacks([7, 9], [FIRST + [0x4E], SECOND + [0x4E, 0x2D, 0x4E]], 4, 0x08)
+
+    def test_parts_that_are_no_message(self):
+        self.lacks([], [])
+        self.lacks([8], [FIRST_A])
+        self.lacks([8], [SECOND_B])
+        self.lacks([8, 8], [FIRST_A, FIRST_A])
+        self.lacks([8, 8, 8], [FIRST_A, SECOND_B, SECOND_B])
+        self.lacks([8, 8], [FIRST_A, octets("050003C8020284")])
+        self.lacks([8, 8], [FIRST_A, octets("050003C7030284")])
+        self.lacks([8, 8], [FIRST_A, octets("050003C7020384")])
+        self.lacks([8, 8], [FIRST_A, octets("050003C7020084")])
+        self.lacks([8], [octets("050003C7000082")])
+        self.lacks([2], [octets("0000")])
+        self.lacks([8, 2], [FIRST_A, octets("0000")])
+
+    def test_counts_and_octets(self):
+        self.lacks([], [[0]], 4)
+        self.lacks([8], [FIRST_A + [0]], 4)
+        self.lacks([8, 8], [FIRST_A], 4)
+        self.lacks([161], [FIRST + [0] * 135], 4)
+        self.lacks([141], [[0] * 141], 4, 0x08)
+        self.joins([160, 8], [FIRST + [0] * 134, SECOND_B], [0x40] * 153 + units("B"))
+        self.joins([140, 8], [FIRST + [0] * 134, SECOND + [0, 0x42]], [0] * 67 + units("B"), 0x08, UCS2)
+
+    def test_255_parts(self):
+        parts = [octets("050003C7FF%02X4E2D" % number) for number in range(255, 0, -1)]
+        self.joins([8] * 255, parts, [HAN] * 255, 0x08, UCS2)
+        self.lacks([8] * 256, parts + parts[:1], 10, 0x08)
+        self.lacks([8] * 254, parts[:-1], 10, 0x08)
+
+    def test_refusals_in_order(self):
+        join, wrong, odd = wikuay.join_parts, octets("040002C7024E"), octets("004E")
+        self.refuses(1, 0, join, 0x24, [6, 9], wrong, room=0)
+        self.refuses(2, 0, join, 0x04, [6, 9], wrong, room=0)
+        self.refuses(4, 0, join, 0x08, [6, 9], wrong, room=0)
+        self.refuses(12, 0, join, 0x08, [2, 6], odd + wrong, room=0)
+        self.refuses(12, 0, join, 0x08, [0], [], room=0)
+        self.refuses(4, 0, join, 0x08, [3, 2], octets("004E2D") + odd, room=0)
+        self.refuses(10, 0, join, 0x08, [3], octets("004E2D"), room=0)
+        self.refuses(7, 0, join, 0x08, [8], octets("050003C701014E2D"), room=0)
 
 
 if __name__ == "__main__":

@@ -1,11 +1,11 @@
-"""A second implementation of Wikuay, the base and W1 to W4 of document 02, written from documents 01 and 02, clause 5
+"""A second implementation of Wikuay, the base and W1 to W5 of document 02, written from documents 01 and 02, clause 5
 of source document 003 and the settled readings of them, without sight of the Rattle code.
 
-It follows document 01 section by section, with W3's data coding table in the place of document 01's, then W1, W2 and W4,
-and does everything in the plainest way. The nineteen calls at the end are what the cases run. Each answers with a
-dictionary; one with a longer result stores it in a buffer that the caller lends, a list. A block of 88 octets is a list
-that is handed over by value. A call that refuses raises Refused, and has then stored nothing; only a meter answers in a
-refusal too, since its record is shown all the same.
+It follows document 01 section by section, with W3's data coding table in the place of document 01's, then W1, W2, W4 and
+W5, and does everything in the plainest way. The twenty-four calls at the end are what the cases run. Each answers with a
+dictionary; one with a longer result stores it in a buffer that the caller lends, a list. Writing all parts of a long
+message is lent two. A block of 88 octets is a list that is handed over by value. A call that refuses raises Refused, and
+has then stored nothing; only a meter answers in a refusal too, since its record is shown all the same.
 """
 
 from functools import lru_cache
@@ -527,6 +527,133 @@ def left_afresh(service, text):
 
 
 # ---------------------------------------------------------------------------------------------------------------------
+# Long short messages (document 02, W5)
+
+MOST_PARTS = 255
+PART_SEPTETS, PART_UNITS = 153, 67  # what a part holds behind its header
+CONCATENATION = 0x00  # the element with reference, total and number, an octet each
+
+
+def septets_before(header_length):
+    """8m/7 rounded up: 7-bit text starts at the next septet boundary behind a header of m octets."""
+    return (8 * header_length + 6) // 7
+
+
+def part_header(reference, total, number):
+    """The length of what follows, and one element: its identifier, its length and the three numbers."""
+    return [5, CONCATENATION, 3, reference, total, number]
+
+
+def elements_of(header):
+    """The elements of a header without its first octet, each as identifier and data. Refusal 12: one runs past the
+    header, also where only its length octet does."""
+    elements = []
+    at = 0
+    while at < len(header):
+        if at + 1 == len(header):
+            raise Refused(12)
+        identifier, length = header[at], header[at + 1]
+        at += 2
+        if at + length > len(header):
+            raise Refused(12)
+        elements.append((identifier, header[at:at + length]))
+        at += length
+    return elements
+
+
+def numbers_of(elements):
+    """Reference, total and number as the last such element gives them, or nothing. Refusal 12: an element of wrong length,
+    also one that does not count."""
+    numbers = []
+    for identifier, data in elements:
+        if identifier == CONCATENATION:
+            if len(data) != 3:
+                raise Refused(12)
+            numbers = data
+    return numbers
+
+
+def opened(alphabet, count, octets):
+    """The numbers of a part, and what stands behind its header: septets, or octets of UCS2. Refusal 12."""
+    if not octets:
+        raise Refused(12)
+    header_length = 1 + octets[0]
+    if header_length > len(octets):
+        raise Refused(12)
+    if alphabet == SEVEN and septets_before(header_length) > count:
+        raise Refused(12)
+    numbers = numbers_of(elements_of(octets[1:header_length]))
+    if alphabet == UCS2:
+        return numbers, octets[header_length:]
+    return numbers, unpacked(octets, count)[septets_before(header_length):]
+
+
+def check_even(alphabet, content):
+    """Refusal 4: odd UCS2 octets behind the header."""
+    if alphabet == UCS2 and len(content) % 2 != 0:
+        raise Refused(4)
+
+
+def text_behind(alphabet, content):
+    return all_units(content) if alphabet == UCS2 else units_of(content)
+
+
+def contents_of(alphabet, text):
+    """The septets or the units of each part: one part for a text that fits alone. Refusals 6 and 5."""
+    if alphabet == UCS2:
+        elements, alone, size = text, UNITS[SMS], PART_UNITS
+    else:
+        elements, alone, size = septets_of(text), SEPTETS[SMS], PART_SEPTETS
+    if len(elements) <= alone:
+        return [elements]
+    check_size(len(elements), MOST_PARTS * size)
+    return cut(elements, size)
+
+
+def part_of(alphabet, reference, contents, number):
+    """The count and the octets of a part. A lone one has no header; the count covers the header of any other."""
+    content = contents[number - 1]
+    header = part_header(reference, len(contents), number) if len(contents) > 1 else []
+    if alphabet == UCS2:
+        octets = header + ucs2_octets(SMS, content)
+        return len(octets), octets
+    septets = [0] * septets_before(len(header)) + content
+    octets = packed(septets)
+    octets[:len(header)] = header  # over the front of those zeros: the fill bit behind it stays 0
+    return len(septets), octets
+
+
+def is_marked(contents):
+    """The mark: 1 where a header stands in front."""
+    return 1 if len(contents) > 1 else 0
+
+
+def parts_lent(alphabet, counts, octets):
+    """Each part's count and octets. Refusal 4: a count over the limit, or octets not of the length that all counts ask."""
+    most = OCTETS[SMS] if alphabet == UCS2 else SEPTETS[SMS]
+    lengths = [count if alphabet == UCS2 else octets_for(count) for count in counts]
+    if any(count > most for count in counts) or sum(lengths) != len(octets):
+        raise Refused(4)
+    parts = []
+    at = 0
+    for count, length in zip(counts, lengths):
+        parts.append((count, octets[at:at + length]))
+        at += length
+    return parts
+
+
+def check_numbers(all_numbers):
+    """Refusal 10: the parts are not each part of one message, once."""
+    if not all_numbers or [] in all_numbers:
+        raise Refused(10)
+    reference, total, _ = all_numbers[0]
+    if any(numbers[:2] != [reference, total] for numbers in all_numbers):
+        raise Refused(10)
+    if sorted(numbers[2] for numbers in all_numbers) != list(range(1, total + 1)):
+        raise Refused(10)
+
+
+# ---------------------------------------------------------------------------------------------------------------------
 # Refusals
 
 def check_octets(service, alphabet, octets, count):
@@ -541,6 +668,16 @@ def check_octets(service, alphabet, octets, count):
         fits = count == 0 and (m == OCTETS[service] if service in EXACT else m <= OCTETS[service])
         if alphabet == UCS2 and m % 2 != 0:
             fits = False
+    if not fits:
+        raise Refused(4)
+
+
+def check_marked_octets(alphabet, octets, count):
+    """Refusal 4 of a short message with a header in front: as without it, but evenness is judged behind the header."""
+    if alphabet == UCS2:
+        fits = len(octets) <= OCTETS[SMS] and count == len(octets)
+    else:
+        fits = count <= SEPTETS[SMS] and len(octets) == octets_for(count)
     if not fits:
         raise Refused(4)
 
@@ -712,3 +849,67 @@ def unit_taken_back(service, used, unit):
 def meter_cleared(service, used):
     """Refuses nothing."""
     return after_key(Meter(service, used), Meter.clear)
+
+
+def read_part(coding, count, mark, octets, out):
+    """1, 2, 4, 7 without the mark, as a short message. 1, 2, 4 (octets and count), 12, 4 (odd behind the header), 7 with
+    it. A short message's coding holds no 3."""
+    if not mark:
+        return {**read_message(SMS, coding, count, octets, out), "numbers": []}
+    reading = reading_of(SMS, coding)
+    alphabet = text_of(reading)
+    check_marked_octets(alphabet, octets, count)
+    numbers, content = opened(alphabet, count, octets)
+    check_even(alphabet, content)
+    return {"written": store(text_behind(alphabet, content), out), "reading": reading, "numbers": numbers}
+
+
+def count_parts(reading, text):
+    """8, 1, 2, 6, 5."""
+    message_octet(SMS, reading)
+    return {"parts": len(contents_of(text_of(reading), text))}
+
+
+def write_part(reading, reference, text, number, out):
+    """8, 1, 2, 6, 5, 10, 7."""
+    coding = message_octet(SMS, reading)
+    alphabet = text_of(reading)
+    contents = contents_of(alphabet, text)
+    if number < 1 or number > len(contents):
+        raise Refused(10)
+    count, octets = part_of(alphabet, reference, contents, number)
+    return {"written": store(octets, out), "mark": is_marked(contents), "count": count, "coding": coding,
+            "parts": len(contents)}
+
+
+def write_parts(reading, reference, text, out, sizes):
+    """8, 1, 2, 6, 5, 7: both buffers are long enough, or nothing is stored in either."""
+    coding = message_octet(SMS, reading)
+    alphabet = text_of(reading)
+    contents = contents_of(alphabet, text)
+    octets, pairs = [], []
+    for number in range(1, len(contents) + 1):
+        count, part = part_of(alphabet, reference, contents, number)
+        octets += part
+        pairs += [count, len(part)]
+    if len(sizes) < len(pairs):
+        raise Refused(7)
+    written = store(octets, out)
+    store(pairs, sizes)
+    return {"written": written, "mark": is_marked(contents), "coding": coding, "parts": len(contents)}
+
+
+def join_parts(coding, counts, octets, out):
+    """1, 2, 4 (counts and octets), 12, 4 (odd behind a header), 10, 7: each is judged over all parts before the next."""
+    reading = reading_of(SMS, coding)
+    alphabet = text_of(reading)
+    parts = [opened(alphabet, count, part) for count, part in parts_lent(alphabet, counts, octets)]
+    for _, content in parts:
+        check_even(alphabet, content)
+    check_numbers([numbers for numbers, _ in parts])
+    joined = []
+    for _, content in sorted(parts, key=lambda part: part[0][2]):
+        joined += content
+    written = store(text_behind(alphabet, joined), out)
+    reference, total, _ = parts[0][0]
+    return {"written": written, "reading": reading, "reference": reference, "parts": total}
