@@ -1,4 +1,5 @@
 // Runs cases from standard input on the library (docs/CASES.md): a line for each that differs, and the totals.
+mod long_text;
 mod reading;
 mod values;
 
@@ -240,20 +241,36 @@ fn called_in(
     given: Values,
     octets: &[u8],
     units: &[u16],
+    counts: &[u8],
     out: &mut [u8],
     text: &mut [u16],
+    sizes: &mut [u8],
 ) -> Values {
     let n = within(given.n, octets);
     let k = within_units(given.n, units);
     let room = within(given.room, out);
     let more = within_units(given.room, text);
-    called(
+    if call < 19 {
+        return called(
+            call,
+            given,
+            &octets[..n],
+            &units[..k],
+            &mut out[..room],
+            &mut text[..more],
+        );
+    }
+    let listed = within(given.listed, counts);
+    let list = within(given.list, sizes);
+    long_text::called(
         call,
         given,
         &octets[..n],
         &units[..k],
+        &counts[..listed],
         &mut out[..room],
         &mut text[..more],
+        &mut sizes[..list],
     )
 }
 
@@ -285,7 +302,7 @@ fn put_touched(
     out: &[u8],
     text: &[u16],
 ) -> usize {
-    let place = if call == 6 || call == 7 || call == 13 {
+    let place = if call == 6 || call == 7 || call == 13 || call == 19 || call == 23 {
         touched_unit(text, written)
     } else {
         touched_octet(out, written)
@@ -297,28 +314,79 @@ fn put_touched(
     values::put_number(came, end, place)
 }
 
+// Puts where the second buffer was touched behind what was written there.
+fn put_listed(came: &mut [u8], at: usize, listed: usize, sizes: &[u8]) -> usize {
+    let place = touched_octet(sizes, listed);
+    if sizes.len() <= place {
+        return at;
+    }
+    let end = put(came, at, b" listed=");
+    values::put_number(came, end, place)
+}
+
+// Puts an answer by the pattern, and where the buffers were touched, which are as long as the room.
+fn put_answer(
+    call: usize,
+    answer: Values,
+    pattern: &[u8],
+    out: &[u8],
+    text: &[u16],
+    sizes: &[u8],
+    came: &mut [u8],
+) -> usize {
+    let end = values::put_by(came, pattern, answer, out, text, sizes);
+    let touched = put_touched(came, end, call, answer.written, out, text);
+    put_listed(came, touched, answer.listed, sizes)
+}
+
 // Calls the library, and puts its answer by the pattern.
 fn run(
     call: usize,
     given: Values,
     octets: &[u8],
     units: &[u16],
+    counts: &[u8],
     pattern: &[u8],
     came: &mut [u8],
 ) -> usize {
     let mut out = [0xa5u8; 4096];
     let mut text = [0xa5a5u16; 4096];
-    let answer = called_in(call, given, octets, units, &mut out, &mut text);
+    let mut sizes = [0xa5u8; 4096];
+    let answer = called_in(
+        call,
+        given,
+        octets,
+        units,
+        counts,
+        &mut out,
+        &mut text,
+        &mut sizes,
+    );
     let room = within(given.room, &out);
     let more = within_units(given.room, &text);
-    let end = values::put_by(came, pattern, answer, &out[..room], &text[..more]);
-    put_touched(came, end, call, answer.written, &out[..room], &text[..more])
+    let list = within(given.list, &sizes);
+    put_answer(
+        call,
+        answer,
+        pattern,
+        &out[..room],
+        &text[..more],
+        &sizes[..list],
+        came,
+    )
 }
 
 // How much of the text the pattern puts with the values; 0 where the text is another.
-fn spelled(pattern: &[u8], text: &[u8], values: Values, octets: &[u8], units: &[u16]) -> usize {
+fn spelled(
+    pattern: &[u8],
+    text: &[u8],
+    values: Values,
+    octets: &[u8],
+    units: &[u16],
+    list: &[u8],
+) -> usize {
     let mut again = [0u8; 16385];
-    let n = values::put_by(&mut again, pattern, values, octets, units);
+    let n = values::put_by(&mut again, pattern, values, octets, units, list);
     let k = within(n, &again);
     if check::same(part(text, 0, k), &again[..k]) {
         k
@@ -331,8 +399,9 @@ fn spelled(pattern: &[u8], text: &[u8], values: Values, octets: &[u8], units: &[
 fn is_answer(pattern: &[u8], text: &[u8]) -> bool {
     let mut octets = [0u8; 8192];
     let mut units = [0u16; 4096];
-    let values = values::take_by(pattern, text, &mut octets, &mut units);
-    let n = spelled(pattern, text, values, &octets, &units);
+    let mut list = [0u8; 8192];
+    let values = values::take_by(pattern, text, &mut octets, &mut units, &mut list);
+    let n = spelled(pattern, text, values, &octets, &units, &list);
     0 < n && n == text.len()
 }
 
@@ -354,19 +423,20 @@ fn judge_case(patterns: &[u8], line: &[u8], came: &mut [u8]) -> usize {
     }
     let mut octets = [0u8; 8192];
     let mut units = [0u16; 4096];
+    let mut counts = [0u8; 8192];
     let call = values::place_of(
-        b"read-coding|write-coding|holds-text|pack|unpack|text-to-septets|septets-to-text|read-message|write-message|read-header|count-pages|build-page|write-pages|join-pages|new-meter|room-left|unit-added|unit-taken-back|meter-cleared|",
+        b"read-coding|write-coding|holds-text|pack|unpack|text-to-septets|septets-to-text|read-message|write-message|read-header|count-pages|build-page|write-pages|join-pages|new-meter|room-left|unit-added|unit-taken-back|meter-cleared|read-part|count-parts|write-part|write-parts|join-parts|",
         part(text, 0, end_at(text, 0, 32)),
     );
     let inputs = values::nth(patterns, call % 32 * 2);
     let answer = values::nth(patterns, call % 32 * 2 + 1);
-    let given = values::take_by(inputs, text, &mut octets, &mut units);
-    let at = spelled(inputs, text, given, &octets, &units);
-    if at == 0 {
+    let given = values::take_by(inputs, text, &mut octets, &mut units, &mut counts);
+    let at = spelled(inputs, text, given, &octets, &units, &counts);
+    if at == 0 || long_text::too_long(given.n, given.times) {
         return 2;
     }
     let expected = part(text, at, text.len());
-    let n = run(call, given, &octets, &units, answer, came);
+    let n = run(call, given, &octets, &units, &counts, answer, came);
     let k = within(n, came);
     if check::same(expected, &came[..k]) {
         return 0;
@@ -472,7 +542,7 @@ fn main() {
     let mut came = [0u8; 20480];
     // Of each call, in the order of their numbers: its name and inputs, and its answer.
     let patterns =
-        b"read-coding service=S coding=C : |refusal=F position=P reading=R|write-coding service=S reading=R : |refusal=F position=P coding=C|holds-text reading=R : |refusal=F position=P holds=H|pack service=S septets=O room=M : |refusal=F position=P written=W count=N out=O|unpack service=S count=N octets=O room=M : |refusal=F position=P written=W out=O|text-to-septets text=U room=M : |refusal=F position=P written=W out=O|septets-to-text septets=O room=M : |refusal=F position=P written=W out=U|read-message service=S coding=C count=N octets=O room=M : |refusal=F position=P written=W reading=R out=U|write-message service=S reading=R text=U room=M : |refusal=F position=P written=W count=N coding=C out=O|read-header block=B : |sequence=Q identifier=I coding=C total=T number=K|count-pages reading=R text=U : |refusal=F position=P pages=G|build-page sequence=Q identifier=I reading=R text=U number=K : |refusal=F position=P pages=G block=B|write-pages sequence=Q identifier=I reading=R text=U room=M : |refusal=F position=P written=W pages=G out=O|join-pages octets=O room=M : |refusal=F position=P written=W reading=R sequence=Q identifier=I pages=G out=U|new-meter service=S : |refusal=F position=P left=L service=S used=E|room-left service=S used=E : |refusal=F position=P left=L service=S used=E|unit-added service=S used=E unit=V : |refusal=F position=P left=L service=S used=E|unit-taken-back service=S used=E unit=V : |refusal=F position=P left=L service=S used=E|meter-cleared service=S used=E : |refusal=F position=P left=L service=S used=E|";
+        b"read-coding service=S coding=C : |refusal=F position=P reading=R|write-coding service=S reading=R : |refusal=F position=P coding=C|holds-text reading=R : |refusal=F position=P holds=H|pack service=S septets=O room=M : |refusal=F position=P written=W count=N out=O|unpack service=S count=N octets=O room=M : |refusal=F position=P written=W out=O|text-to-septets text=U room=M : |refusal=F position=P written=W out=O|septets-to-text septets=O room=M : |refusal=F position=P written=W out=U|read-message service=S coding=C count=N octets=O room=M : |refusal=F position=P written=W reading=R out=U|write-message service=S reading=R text=U room=M : |refusal=F position=P written=W count=N coding=C out=O|read-header block=B : |sequence=Q identifier=I coding=C total=T number=K|count-pages reading=R text=U : |refusal=F position=P pages=G|build-page sequence=Q identifier=I reading=R text=U number=K : |refusal=F position=P pages=G block=B|write-pages sequence=Q identifier=I reading=R text=U room=M : |refusal=F position=P written=W pages=G out=O|join-pages octets=O room=M : |refusal=F position=P written=W reading=R sequence=Q identifier=I pages=G out=U|new-meter service=S : |refusal=F position=P left=L service=S used=E|room-left service=S used=E : |refusal=F position=P left=L service=S used=E|unit-added service=S used=E unit=V : |refusal=F position=P left=L service=S used=E|unit-taken-back service=S used=E unit=V : |refusal=F position=P left=L service=S used=E|meter-cleared service=S used=E : |refusal=F position=P left=L service=S used=E|read-part coding=C count=N mark=A octets=O room=M : |refusal=F position=P written=W reading=R numbers=J out=U|count-parts reading=R text=U times=X : |refusal=F position=P parts=G|write-part reading=R reference=C text=U times=X number=K room=M : |refusal=F position=P written=W mark=A count=N coding=C parts=G out=O|write-parts reading=R reference=C text=U times=X room=M list=Y : |refusal=F position=P written=W mark=A coding=C parts=G out=O sizes=Z|join-parts coding=C counts=Z octets=O room=M : |refusal=F position=P written=W reading=R reference=C parts=G out=U|";
     let t = feed_all(patterns, &mut chunk, &mut line, &mut came);
     let total = if t.len == 0 {
         t

@@ -1,7 +1,9 @@
 // The values of a case by the letters of a pattern: taken out of a line, and put into a buffer.
-// F, P, W, N, G, T and K are the numbers refusal, position, written, count, pages, total and number, Q and I are the pairs sequence and
-// identifier, M is the room, S the service, C a coding octet, R a reading, H what is held, B a block, O octets and U units. Of a meter E is the number
-// used, L the number left, which has a sign, and V a unit. Values are taken as they come: a line is a case where they put it again, letter by letter.
+// F, P, W, N, G, T and K are the numbers refusal, position, written, count, pages or parts, total and number, Q and I are the pairs sequence and
+// identifier, M is the room, S the service, C a coding octet or a reference, R a reading, H what is held, B a block, O octets and U units. Of a meter E is
+// the number used, L the number left, which has a sign, and V a unit. Of a long short message A is the mark, J the numbers of a part, X how many times the
+// text is taken, Y the room of the second buffer, and Z the octets that stand in that or beside the others: sizes, or counts.
+// Values are taken as they come: a line is a case where they put it again, letter by letter.
 use crate::reading;
 use names::ReadingNumbers;
 use printed::put;
@@ -30,8 +32,14 @@ pub(crate) struct Values {
     pub below: bool,
     pub left: usize,
     pub unit: u16,
-    // How many octets or units there are.
+    pub mark: usize,
+    // How many numbers of a part there are: three, which are the reference, the total and the number, or none.
+    pub numbered: usize,
+    pub times: usize,
+    pub list: usize,
+    // How many octets or units there are, and how many octets beside them.
     pub n: usize,
+    pub listed: usize,
 }
 
 pub(crate) fn plain() -> Values {
@@ -55,7 +63,12 @@ pub(crate) fn plain() -> Values {
         below: false,
         left: 0,
         unit: 0,
+        mark: 0,
+        numbered: 0,
+        times: 0,
+        list: 0,
         n: 0,
+        listed: 0,
     }
 }
 
@@ -153,6 +166,12 @@ fn unit_of(word: &[u8]) -> u16 {
     one[0]
 }
 
+fn three_of(word: &[u8]) -> [u8; 3] {
+    let mut three = [0u8; 3];
+    typed::read_octets(word, &mut three);
+    three
+}
+
 fn block_of(word: &[u8]) -> [u8; 88] {
     let mut block = [0u8; 88];
     typed::read_octets(word, &mut block);
@@ -172,7 +191,14 @@ fn elements(answer: Elements) -> usize {
 }
 
 // Takes one value by its letter.
-fn take(values: Values, letter: u8, word: &[u8], octets: &mut [u8], units: &mut [u16]) -> Values {
+fn take(
+    values: Values,
+    letter: u8,
+    word: &[u8],
+    octets: &mut [u8],
+    units: &mut [u16],
+    list: &mut [u8],
+) -> Values {
     let mut next = values;
     if letter == b'O' {
         next.n = elements(typed::read_octets(word, octets));
@@ -182,9 +208,21 @@ fn take(values: Values, letter: u8, word: &[u8], octets: &mut [u8], units: &mut 
         next.n = elements(typed::read_units(word, units));
         return next;
     }
+    if letter == b'Z' {
+        next.listed = elements(typed::read_octets(word, list));
+        return next;
+    }
     if letter == b'B' {
         let block = block_of(word);
         next.block = block;
+        return next;
+    }
+    if letter == b'J' {
+        let three = three_of(word);
+        next.coding = three[0];
+        next.total = three[1] as usize;
+        next.number = three[2] as usize;
+        next.numbered = if has(word, 0, b'-') { 0 } else { 3 };
         return next;
     }
     if letter == b'L' {
@@ -210,6 +248,9 @@ fn take(values: Values, letter: u8, word: &[u8], octets: &mut [u8], units: &mut 
         b'I' => next.identifier = up_to(65535, n),
         b'E' => next.used = n,
         b'V' => next.unit = unit_of(word),
+        b'A' => next.mark = up_to(1, n),
+        b'X' => next.times = n,
+        b'Y' => next.list = up_to(4096, n),
         _ => next.room = up_to(4096, n),
     }
     next
@@ -222,7 +263,14 @@ struct Taken {
 }
 
 // Takes the next value, where the pattern has a letter for one.
-fn step(taken: Taken, letter: u8, line: &[u8], octets: &mut [u8], units: &mut [u16]) -> Taken {
+fn step(
+    taken: Taken,
+    letter: u8,
+    line: &[u8],
+    octets: &mut [u8],
+    units: &mut [u16],
+    list: &mut [u8],
+) -> Taken {
     let values = taken.values;
     if letter < b'A' || b'Z' < letter {
         return taken;
@@ -231,18 +279,24 @@ fn step(taken: Taken, letter: u8, line: &[u8], octets: &mut [u8], units: &mut [u
     let to = end_at(line, from, 32);
     Taken {
         at: to,
-        values: take(values, letter, part(line, from, to), octets, units),
+        values: take(values, letter, part(line, from, to), octets, units, list),
     }
 }
 
 // Takes the values of a pattern from a line. Octets and units are stored at the front of their buffers.
-pub(crate) fn take_by(pattern: &[u8], line: &[u8], octets: &mut [u8], units: &mut [u16]) -> Values {
+pub(crate) fn take_by(
+    pattern: &[u8],
+    line: &[u8],
+    octets: &mut [u8],
+    units: &mut [u16],
+    list: &mut [u8],
+) -> Values {
     let mut taken = Taken {
         at: 0,
         values: plain(),
     };
     for i in 0..pattern.len() {
-        taken = step(taken, pattern[i], line, octets, units);
+        taken = step(taken, pattern[i], line, octets, units, list);
     }
     let values = taken.values;
     values
@@ -280,6 +334,18 @@ fn put_units(out: &mut [u8], at: usize, units: &[u16], n: usize) -> usize {
     printed::put_units(out, at, &units[..k])
 }
 
+fn put_block(out: &mut [u8], at: usize, block: [u8; 88]) -> usize {
+    printed::put_octets(out, at, &block)
+}
+
+// Puts how many times a text is taken: once at least.
+fn put_times(out: &mut [u8], at: usize, n: usize) -> usize {
+    if n == 0 {
+        return put(out, at, b"\n");
+    }
+    put_number(out, at, n)
+}
+
 // Puts one value by its letter, or any other letter. A word that is none is put as a line end, which no line has.
 fn put_value(
     out: &mut [u8],
@@ -288,12 +354,18 @@ fn put_value(
     values: Values,
     octets: &[u8],
     units: &[u16],
+    list: &[u8],
 ) -> usize {
     let one = [letter];
     let coding = [values.coding];
     let reading = values.reading;
     let block = values.block;
     let unit = [values.unit];
+    let three = [
+        values.coding,
+        (values.total % 256) as u8,
+        (values.number % 256) as u8,
+    ];
     match letter {
         b'S' => put(out, at, nth(b"sms|broadcast|ussd|old|\n|", values.service)),
         b'H' => put(out, at, nth(b"none|7bit|ucs2|\n|", values.held)),
@@ -310,10 +382,15 @@ fn put_value(
         b'K' => put_number(out, at, values.number),
         b'Q' => put_number(out, at, values.sequence),
         b'I' => put_number(out, at, values.identifier),
-        b'B' => printed::put_octets(out, at, &block),
+        b'B' => put_block(out, at, block),
         b'E' => put_number(out, at, values.used),
         b'L' => put_signed(out, at, values.below, values.left),
         b'V' => printed::put_units(out, at, &unit),
+        b'A' => put_number(out, at, values.mark),
+        b'J' => put_octets(out, at, &three, values.numbered),
+        b'X' => put_times(out, at, values.times),
+        b'Y' => put_number(out, at, values.list),
+        b'Z' => put_octets(out, at, list, values.listed),
         b'M' => put_number(out, at, values.room),
         _ => put(out, at, &one),
     }
@@ -326,10 +403,11 @@ pub(crate) fn put_by(
     values: Values,
     octets: &[u8],
     units: &[u16],
+    list: &[u8],
 ) -> usize {
     let mut end: usize = 0;
     for i in 0..pattern.len() {
-        end = put_value(out, end, pattern[i], values, octets, units);
+        end = put_value(out, end, pattern[i], values, octets, units, list);
     }
     end
 }

@@ -7,10 +7,10 @@ use Rattle.cases.proofs.values.put_by.Statement.{statement}
 use Rattle.cases.proofs.values.put_by.Tie as tie
 
 abbrev Inv-loop : tie.InvT-loop
-Inv-loop out₀ pattern values octets units end₀ i₀ i-end out end i = (length out ≡ length out₀) × (i ≤ i-end)
+Inv-loop out₀ pattern values octets units list end₀ i₀ i-end out end i = (length out ≡ length out₀) × (i ≤ i-end)
 
 abbrev μ-loop : tie.MeasureT-loop
-μ-loop out₀ pattern values octets units end₀ i₀ i-end out end i = i-end - i
+μ-loop out₀ pattern values octets units list end₀ i₀ i-end out end i = i-end - i
 
 loop-holds : tie.Need-loop-holds Inv-loop μ-loop
 loop-holds c = search needs

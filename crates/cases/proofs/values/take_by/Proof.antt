@@ -7,10 +7,10 @@ use Rattle.cases.proofs.values.take_by.Statement.{statement}
 use Rattle.cases.proofs.values.take_by.Tie as tie
 
 abbrev Inv-loop : tie.InvT-loop
-Inv-loop pattern line octets₀ units₀ taken₀ i₀ i-end octets units taken i = (length octets ≡ length octets₀) × (length units ≡ length units₀) × (i ≤ i-end)
+Inv-loop pattern line octets₀ units₀ list₀ taken₀ i₀ i-end octets units list taken i = (length octets ≡ length octets₀) × (length units ≡ length units₀) × (length list ≡ length list₀) × (i ≤ i-end)
 
 abbrev μ-loop : tie.MeasureT-loop
-μ-loop pattern line octets₀ units₀ taken₀ i₀ i-end octets units taken i = i-end - i
+μ-loop pattern line octets₀ units₀ list₀ taken₀ i₀ i-end octets units list taken i = i-end - i
 
 plain-requires : tie.Need-plain-requires Inv-loop μ-loop
 plain-requires c κs = search needs
@@ -39,6 +39,9 @@ same-length c = search needs
 same-length-2 : tie.Need-same-length-2 Inv-loop μ-loop
 same-length-2 c = search needs
 
+same-length-3 : tie.Need-same-length-3 Inv-loop μ-loop
+same-length-3 c = search needs
+
 returns : tie.Need-returns Inv-loop μ-loop
 returns c = search needs
 
@@ -57,4 +60,5 @@ take-by-spec =
     loop-again
     same-length
     same-length-2
+    same-length-3
     returns)
