@@ -16,7 +16,7 @@ pub(crate) const USSD: usize = 2;
 
 pub(crate) const OLD: usize = 3;
 
-// A broadcast: the commands on several pages name no service.
+// A broadcast: the commands on several pages name no service, and neither do those on parts.
 const CBS: usize = 1;
 
 // The options by their numbers: the bits of `given`, and the places of `numbers`.
@@ -36,9 +36,17 @@ pub(crate) const PAGE: usize = 6;
 
 pub(crate) const LETTERS: usize = 7;
 
-const JSON: usize = 8;
+pub(crate) const REFERENCE: usize = 8;
 
-// No more is typed or read: a text of 15 pages, each of its units in four digits, takes 5,580.
+pub(crate) const PART: usize = 9;
+
+const COUNTS: usize = 10;
+
+pub(crate) const MARK: usize = 11;
+
+const JSON: usize = 12;
+
+// No more is typed or read: a text of 15 pages, each of its units in four digits, takes 5,580. A text of more than 108 parts cannot be typed.
 pub(crate) const MOST: usize = 8192;
 
 pub(crate) struct Job {
@@ -61,11 +69,11 @@ pub(crate) struct Job {
     pub line: usize,
     pub layout: usize,
     pub coding: u8,
-    // The numbers of --count, --room, --sequence, --identifier and --page.
-    pub numbers: [usize; 8],
+    // The numbers of --count, --room, --sequence, --identifier, --page, --reference, --part and --mark.
+    pub numbers: [usize; 16],
     // The letters of --letters as units, or 0.
     pub letters: [u16; 2],
-    // How long the text is, and how many units there are.
+    // How long the text is, and how many units there are; the counts of --counts stand in the place of units.
     pub len: usize,
     pub units: usize,
 }
@@ -122,7 +130,7 @@ fn dashed(text: &[u8], at: usize) -> bool {
 
 fn verb_of(word: &[u8]) -> usize {
     place_of(
-        b"write|read|coding|explain|pack|unpack|room|pages|join|header|lines|help|",
+        b"write|read|coding|explain|pack|unpack|room|pages|join|header|parts|part|join-parts|lines|help|",
         word,
     )
 }
@@ -198,6 +206,52 @@ pub(crate) fn clean(text: &[u8], mask: usize, digits: &mut [u8]) -> usize
     tell::within(end.n, digits)
 }
 
+// The counts so far, and the digits of the present one: how many, and what they say.
+struct Counting {
+    n: usize,
+    digits: usize,
+    value: usize,
+    right: bool,
+}
+
+// Takes in one letter of --counts: a comma closes a count, which is stored as a unit.
+fn count_letter(units: &mut [u16], so_far: Counting, c: u8) -> Counting {
+    let n = so_far.n;
+    let digits = so_far.digits;
+    let value = so_far.value;
+    let mut next = so_far;
+    if c == b',' {
+        put_unit(units, n, (value % 256) as u8);
+        next.n = tell::more(n);
+        next.digits = 0;
+        next.value = 0;
+        next.right = so_far.right && 0 < digits && value < 256;
+        return next;
+    }
+    next.digits = tell::more(digits);
+    if c < b'0' || b'9' < c || 2 < digits || (0 < digits && value == 0) {
+        next.right = false;
+        return next;
+    }
+    next.value = value % 1000 * 10 + (c - b'0') as usize;
+    next
+}
+
+// Stores the counts of a word as units, and answers how many there are; 0 where the word spells none.
+fn counts_of(word: &[u8], units: &mut [u16]) -> usize {
+    let mut so_far = Counting {
+        n: 0,
+        digits: 0,
+        value: 0,
+        right: true,
+    };
+    for i in 0..word.len() {
+        so_far = count_letter(units, so_far, word[i]);
+    }
+    let end = count_letter(units, so_far, b',');
+    if end.right { end.n } else { 0 }
+}
+
 impl Job {
     // A fault that the word is shown with.
     pub(crate) fn wrong(self, fault: usize, word: &[u8], units: &mut [u16]) -> Job {
@@ -223,7 +277,10 @@ impl Job {
 
     // Whether a text is written: one word, or all of the rest of a line.
     pub(crate) fn writes(self) -> bool {
-        self.verb == help::WRITE || self.verb == help::ROOM || self.verb == help::PAGES
+        self.verb == help::WRITE
+            || self.verb == help::ROOM
+            || self.verb == help::PAGES
+            || self.verb == help::PARTS
     }
 
     // The value of an option that is a number.
@@ -234,12 +291,18 @@ impl Job {
                 if 65535 < n && (option == SEQUENCE || option == IDENTIFIER) {
                     return self.wrong(fault::PAIR, word, units);
                 }
-                next.numbers[option % 8] = n as usize;
+                if 255 < n && option == REFERENCE {
+                    return self.wrong(fault::REFERENCE, word, units);
+                }
+                if 1 < n && option == MARK {
+                    return self.wrong(fault::MARK, word, units);
+                }
+                next.numbers[option % 16] = n as usize;
                 next
             }
             Number::Nothing => {
                 if word.len() == 0 {
-                    self.fails(fault::VALUE, 2 + option % 8)
+                    self.fails(fault::VALUE, 2 + option % 16)
                 } else if typed::first_other(word, 10) < word.len() {
                     self.wrong(fault::NUMBER, word, units)
                 } else if word[0] == b'0' {
@@ -263,12 +326,26 @@ impl Job {
         next
     }
 
+    // The value of --counts.
+    fn counted(self, word: &[u8], units: &mut [u16]) -> Job {
+        let mut next = self;
+        let n = counts_of(word, units);
+        if n == 0 {
+            return self.wrong(fault::COUNTS, word, units);
+        }
+        next.units = n;
+        next
+    }
+
     // The value of an option.
     fn value(self, option: usize, word: &[u8], units: &mut [u16]) -> Job {
         let mut next = self;
         next.waiting = 0;
         if option == LETTERS {
             return next.lettered(word, units);
+        }
+        if option == COUNTS {
+            return next.counted(word, units);
         }
         if option != CODING && option != UNITS {
             return next.number(option, word, units);
@@ -303,16 +380,16 @@ impl Job {
         let mut next = self;
         let n = end_at(word, 0, b'=', false);
         let option = place_of(
-            b"--coding|--count|--units|--room|--sequence|--identifier|--page|--letters|--json|--help|-h|--|",
+            b"--coding|--count|--units|--room|--sequence|--identifier|--page|--letters|--reference|--part|--counts|--mark|--json|--help|-h|--|",
             &word[..n],
         );
         let whole = n == word.len();
-        if 11 < option || (JSON <= option && !whole) {
+        if 15 < option || (JSON <= option && !whole) {
             return self.wrong(fault::OPTION, word, units);
         }
         if JSON < option {
-            next.helps = self.helps || option < 11;
-            next.ended = option == 11;
+            next.helps = self.helps || option < 15;
+            next.ended = option == 15;
             return next;
         }
         let bit = 1u32 << option;
@@ -365,12 +442,12 @@ impl Job {
             if named == help::VERBS {
                 return self.wrong(fault::VERB, word, units);
             }
-            if 0 < self.line && (named == help::EXPLAIN || help::HEADER < named) {
+            if 0 < self.line && (named == help::EXPLAIN || help::JOIN_PARTS < named) {
                 return self.wrong(fault::LINE, word, units);
             }
-            // A command on several pages has no word for the service: the text or the octets come next.
-            if help::ROOM < named && named <= help::HEADER {
-                next.service = CBS;
+            // A command on several pages or on parts has no word for the service: the text or the octets come next.
+            if help::ROOM < named && named <= help::JOIN_PARTS {
+                next.service = if named < help::PARTS { CBS } else { SMS };
                 next.words = 2;
             }
             return next;
@@ -443,14 +520,17 @@ impl Job {
     fn taken(self) -> u32 {
         let verb = self.verb;
         match verb {
-            help::WRITE => 397,
-            help::READ => 259,
+            help::WRITE => 4237,
+            help::READ => 4099,
             help::EXPLAIN => 3,
-            help::UNPACK => 258,
-            help::ROOM => 260,
-            help::PAGES => if self.gives(PAGE) { 501 } else { 509 },
+            help::UNPACK => 4098,
+            help::ROOM => 4100,
+            help::PAGES => if self.gives(PAGE) { 4341 } else { 4349 },
+            help::PARTS => 4877,
+            help::PART => 6147,
+            help::JOIN_PARTS => 5121,
             help::HELP => 0,
-            _ => 256,
+            _ => 4096,
         }
     }
 
@@ -458,8 +538,11 @@ impl Job {
     fn misfit(self) -> usize {
         let verb = self.verb;
         let given = self.given;
-        let odd = given & (511 - self.taken() % 512);
-        let counts = verb == help::READ || verb == help::EXPLAIN || verb == help::UNPACK;
+        let odd = given & (8191 - self.taken() % 8192);
+        let counts = verb == help::READ
+            || verb == help::EXPLAIN
+            || verb == help::UNPACK
+            || verb == help::PART;
         if 0 < self.waiting {
             fault::VALUE * 16 + 1 + self.waiting % 16
         } else if self.helps {
@@ -468,7 +551,7 @@ impl Job {
             fault::NO_VERB * 16
         } else if odd != 0 {
             fault::STRANGE * 16 + 2 + (u32::trailing_zeros(odd) % 16) as usize
-        } else if help::HEADER < verb {
+        } else if help::JOIN_PARTS < verb {
             0
         } else if self.words < 2 {
             fault::NO_SERVICE * 16
@@ -478,6 +561,8 @@ impl Job {
             fault::MISSING * 16
         } else if counts && self.service == SMS && !self.gives(COUNT) {
             fault::COUNT * 16
+        } else if verb == help::JOIN_PARTS && !self.gives(COUNTS) {
+            fault::NO_COUNTS * 16
         } else {
             0
         }
@@ -536,7 +621,7 @@ fn begun(line: usize, layout: usize, long: bool) -> Job {
         line: line,
         layout: layout,
         coding: 0,
-        numbers: [0, 0, 0, MOST, 0, 0, 0, 0],
+        numbers: [0, 0, 0, MOST, 0, 0, 0, 0, 0, 0, 0, 1, 0, 0, 0, 0],
         letters: [0, 0],
         len: 0,
         units: 0,

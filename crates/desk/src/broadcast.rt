@@ -81,7 +81,7 @@ fn one(out: &mut [u8], at: usize, job: Job, reading: ReadingNumbers, units: &[u1
     let block = answer.block;
     let octets = block.octets;
     if answer.refusal == 10 {
-        return no_page(out, at, job, number);
+        return verbs::refuse_number(out, at, job, verbs::OF_PAGE, number);
     }
     if answer.refusal != 0 {
         return verbs::refuse_text(out, at, job, answer.refusal, answer.position, units);
@@ -96,15 +96,6 @@ fn one(out: &mut [u8], at: usize, job: Job, reading: ReadingNumbers, units: &[u1
         &octets,
         units,
     )
-}
-
-// A page that the message lacks is shown by its number.
-fn no_page(out: &mut [u8], at: usize, job: Job, number: usize) -> usize {
-    let mut digits = [0u8; 20];
-    let mut shown = [0u16; 20];
-    let n = io::decimal(number as u64, &mut digits);
-    let k = tell::within_units(asked::widen(&digits[..n], &mut shown), &shown);
-    verbs::refuse(out, at, job, verbs::OF_PAGE, 10, 0, b"", &shown[..k])
 }
 
 // The text of blocks. 1, 2 and 3 are of the first block's coding octet.

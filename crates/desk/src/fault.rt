@@ -47,8 +47,16 @@ pub(crate) const BLOCK: usize = 22;
 
 pub(crate) const LETTERS: usize = 23;
 
+pub(crate) const REFERENCE: usize = 24;
+
+pub(crate) const MARK: usize = 25;
+
+pub(crate) const COUNTS: usize = 26;
+
+pub(crate) const NO_COUNTS: usize = 27;
+
 // No fault of the request: the program cannot answer it.
-pub(crate) const UNREAD: usize = 24;
+pub(crate) const UNREAD: usize = 28;
 
 // Says what is wrong; shown with it is nothing (0), the units (1), or an option (2 and more).
 pub(crate) fn say(
@@ -88,8 +96,12 @@ a short message is read with its length count; give --count|
 the command does not stand in a line|
 the largest sequence number or message identifier is 65535|
 a block is 88 octets, so 176 hexadecimal digits|
-the language letters are two plain ASCII characters, as in --letters en}
-{|: ~|: --coding|: --count|: --units|: --room|: --sequence|: --identifier|: --page|: --letters|: --json}`/",
+the language letters are two plain ASCII characters, as in --letters en|
+the largest reference is 255|
+a mark is 0 or 1|
+counts are numbers of at most 255 with commas between them, as in --counts 160,18|
+parts are joined with their counts; give --counts}
+{|: ~|: --coding|: --count|: --units|: --room|: --sequence|: --identifier|: --page|: --letters|: --reference|: --part|: --counts|: --mark|: --json}`/",
         &numbers,
         b"",
         units,

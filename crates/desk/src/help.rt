@@ -22,11 +22,17 @@ pub(crate) const JOIN: usize = 8;
 
 pub(crate) const HEADER: usize = 9;
 
-pub(crate) const LINES: usize = 10;
+pub(crate) const PARTS: usize = 10;
 
-pub(crate) const HELP: usize = 11;
+pub(crate) const PART: usize = 11;
 
-pub(crate) const VERBS: usize = 12;
+pub(crate) const JOIN_PARTS: usize = 12;
+
+pub(crate) const LINES: usize = 13;
+
+pub(crate) const HELP: usize = 14;
+
+pub(crate) const VERBS: usize = 15;
 
 pub(crate) fn help(out: &mut [u8], at: usize, verb: usize) -> usize {
     match verb {
@@ -196,13 +202,70 @@ wikuay header 000100320F1153F7FB0E32CBDF6DD03C8D6F341A8D46A3D168341A8D46A3D16834
   pages 1
 ",
         ),
+        PARTS => put(
+            out,
+            at,
+            b"usage: wikuay parts TEXT [--reference N] [--coding OCTET] [--part K] [--room N] [--json]
+       wikuay parts --units UNITS [--reference N] [--coding OCTET] [--part K] [--room N] [--json]
+Writes a text as a long short message of 1 to 255 parts: how many they are, whether a user data header stands in front of each, the
+data coding octet, and the length count and the octets of each part. A text that fits alone has no header.
+  TEXT             plain ASCII, typed as it is; - reads it from standard input, without its closing line end; at most 8192 octets
+  --units UNITS    the text as UCS2 units instead, four hexadecimal digits each
+  --reference N    the reference that the parts share, 0 to 255; if not given, 0
+  --coding OCTET   write under what this coding octet says, as 08 of UCS2; if not given, 00
+  --part K         this part alone, from 1
+  --room N         lend a buffer of N octets only, for all parts or for the one
+  --json           answer with one object of JSON
+wikuay parts --coding 08 Hello
+  parts 1
+  mark 0
+  coding 08
+  count 1 10
+  part 1 00480065006C006C006F
+",
+        ),
+        PART => put(
+            out,
+            at,
+            b"usage: wikuay part OCTETS --count N [--mark M] [--coding OCTET] [--json]
+Reads one part of a long short message: the units of its text in hexadecimal, the text, and the numbers of the part, where its header has them.
+  OCTETS           two hexadecimal digits each; - reads them from standard input
+  --count N        the length count that travels with it, which covers the header: septets, or octets for UCS2
+  --mark M         whether a user data header stands in front, 1 or 0; if not given, 1
+  --coding OCTET   the data coding octet; if not given, 00
+  --json           answer with one object of JSON
+wikuay part --count 10 050003050201906536
+  units 00480065006C
+  text Hel
+  reference 5
+  part 1
+  parts 2
+",
+        ),
+        JOIN_PARTS => put(
+            out,
+            at,
+            b"usage: wikuay join-parts PARTS --counts N,N.. [--coding OCTET] [--json]
+Joins the parts of a long short message, in any order: the units of its text in hexadecimal, the text, the reference, and how many parts there are.
+  PARTS            the octets of the parts, two hexadecimal digits each; - reads them from standard input; at most 8192 digits
+  --counts N,N..   the length count of each part, in the order of the parts
+  --coding OCTET   the data coding octet; if not given, 00
+  --json           answer with one object of JSON
+wikuay join-parts --counts 9,10 050003050202D86F 050003050201906536
+  units 00480065006C006C006F
+  text Hello
+  reference 5
+  parts 2
+",
+        ),
         LINES => put(
             out,
             at,
             b"usage: wikuay lines [--json]
-Reads one request a line from standard input, as it is typed behind wikuay: write, read, coding, pack, unpack, room, pages, join or header.
+Reads one request a line from standard input, as it is typed behind wikuay: write, read, coding, pack, unpack, room, pages, join, header,
+parts, part or join-parts.
 Each is answered on one line, in order, with the number of its line. An empty line is passed by.
-The text of write, room or pages is the rest of its line as it is; options stand before it, and -- before a text that begins with -.
+The text of write, room, pages or parts is the rest of its line as it is; options stand before it, and -- before a text that begins with -.
   --json           answer each line with one object of JSON
 echo 'write sms Hello' | wikuay lines
   1 octets C8329BFD06 count 5 coding 00
@@ -227,6 +290,9 @@ fn general(out: &mut [u8], at: usize) -> usize {
        wikuay pages TEXT                a text into the blocks of a broadcast message of several pages
        wikuay join BLOCKS               blocks into text
        wikuay header BLOCK              what stands in a block in front of its text
+       wikuay parts TEXT                a text into the parts of a long short message
+       wikuay part OCTETS               one part into text, and its numbers
+       wikuay join-parts PARTS          parts into text
        wikuay lines                     many requests, one a line
        wikuay help COMMAND              more on a command, with its options and an example
        wikuay --version                 the version

@@ -1,10 +1,11 @@
-// The command: texts written as messages of one page or several, messages read, joined and drawn, coding octets told, and the room left of a text that is
-// typed, by the proved library.
+// The command: texts written as messages of one page or part or of several, messages read, joined and drawn, coding octets told, and the room left of a text
+// that is typed, by the proved library.
 mod asked;
 mod broadcast;
 mod draw;
 mod fault;
 mod help;
+mod long_text;
 mod room;
 mod tell;
 mod verbs;

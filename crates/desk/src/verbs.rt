@@ -5,6 +5,7 @@ use crate::broadcast;
 use crate::draw;
 use crate::fault;
 use crate::help;
+use crate::long_text;
 use crate::room;
 use crate::tell;
 use answers::Answer;
@@ -43,7 +44,8 @@ the buffer is too short|
 the reading cannot be written under this service|
 a septet is 128 or more|
 the pages or parts are not those of one message|
-the language letters are wrong}`/",
+the language letters are wrong|
+the user data header is wrong}`/",
         &numbers,
     )
 }
@@ -63,13 +65,15 @@ const OF_SEPTETS: usize = 5;
 
 const OF_LETTERS: usize = 6;
 
+pub(crate) const OF_PART: usize = 7;
+
 fn shown(out: &mut [u8], at: usize, kind: usize, octets: &[u8], units: &[u16]) -> usize {
     let numbers = [kind];
     tell::tell(
         out,
         at,
         tell::PEOPLE,
-        b"{coding @|octets @|units %|text ~|page ~|septets @|letters ~}",
+        b"{coding @|octets @|units %|text ~|page ~|septets @|letters ~|part ~}",
         &numbers,
         octets,
         units,
@@ -114,6 +118,21 @@ pub(crate) fn refuse(
     } else {
         pointed(out, end, kind, position, octets, units)
     }
+}
+
+// A page or a part that the message lacks is shown by its number.
+pub(crate) fn refuse_number(
+    out: &mut [u8],
+    at: usize,
+    job: Job,
+    kind: usize,
+    number: usize,
+) -> usize {
+    let mut digits = [0u8; 20];
+    let mut shown = [0u16; 20];
+    let n = io::decimal(number as u64, &mut digits);
+    let k = tell::within_units(asked::widen(&digits[..n], &mut shown), &shown);
+    refuse(out, at, job, kind, 10, 0, b"", &shown[..k])
 }
 
 // A refusal of a text, which is shown as it was typed. 11 is of its letters, and so is 8 where letters are given.
@@ -459,6 +478,8 @@ fn on_octets(out: &mut [u8], at: usize, job: Job, text: &[u8], units: &mut [u16]
         help::UNPACK => unpack(out, at, job, &octets[..k]),
         help::JOIN => broadcast::join(out, at, job, &octets[..k]),
         help::HEADER => broadcast::header(out, at, job, &octets[..k]),
+        help::PART => long_text::read(out, at, job, &octets[..k]),
+        help::JOIN_PARTS => long_text::join_in(out, at, job, &octets[..k], units),
         _ => read(out, at, job, &octets[..k]),
     }
 }
@@ -495,6 +516,9 @@ pub(crate) fn answer(out: &mut [u8], at: usize, job: Job, text: &[u8], units: &m
     }
     if job.verb == help::PAGES {
         return broadcast::write(out, at, job, &units[..k]);
+    }
+    if job.verb == help::PARTS {
+        return long_text::write(out, at, job, &units[..k]);
     }
     write(out, at, job, &units[..k])
 }
