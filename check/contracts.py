@@ -35,7 +35,7 @@ def calls(text):
 
 def parameters(head):
     """The parameters of a call, in order, each as written."""
-    inside = re.search(r"fn \w+\((.*?)\)\s*(?:->|\n|$)", head, re.S)[1]
+    inside = re.search(r"fn \w+(?:<[^>]*>)?\((.*?)\)\s*(?:->|\n|$)", head, re.S)[1]
     return [one.strip() for one in re.split(r",(?![^\[]*\])", inside) if one.strip()]
 
 
@@ -141,6 +141,8 @@ def self_test():
         ("a lemma of another type", good, laws.replace("OneAnswer kinds.ps kinds.r fill.Post", "⊤"), 1),
         ("a lemma of another call", good, laws.replace("kinds.r fill.Post\nfill-unique", "kinds.r other.Post\nfill-unique"), 1),
         ("a lemma of another parameter", good, laws.replace("(u .1 .0)", "(u .0)"), 1),
+        ("nothing of a buffer lent for a time", good.replace("fill(", "fill<'a>(").replace("&mut", "&'a mut"), laws, 0),
+        ("no lemma of a buffer lent for a time", good.replace("fill(", "fill<'a>(").replace("&mut", "&'a mut"), laws.replace("pub fill-buffer-unique", "pub fill-buffer-other"), 1),
         ("no import of what it means", good, laws.replace("words.proofs", "own.proofs"), 1),
     ]
     lent = (
@@ -183,7 +185,7 @@ def main(rows_only):
         found["name"]
         for crate in crates
         for spec in (crate / "specs").rglob("*.antt")
-        if spec.stem != "Inner"
+        if not spec.stem.startswith("Inner")
         for found in DEFINED.finditer(spec.read_text(encoding="utf-8"))
     }
     rows, faults = [], []

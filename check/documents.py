@@ -103,7 +103,7 @@ def main(edits_only):
         (crate, path.stem): len(path.read_text(encoding="utf-8").splitlines())
         for crate in crates
         for path in sorted((ROOT / "crates" / crate / "specs").glob("*.antt"))
-        if path.stem not in ("Lib", "Inner")
+        if path.stem != "Lib" and not path.stem.startswith("Inner")
     }
     items = {
         f"{place}::{item}"

@@ -19,25 +19,27 @@
 #define LONGEST 16384
 #define MOST_ROOM 4096
 #define MOST_ELEMENTS (LONGEST / 2) /* octets, septets or units of a value */
-#define MOST_PARTS 16
+#define MOST_TEXT 40960             /* units of a text that is taken so many times */
+#define MOST_WORDS 17               /* of a line, the colon too */
 
 static void fail(const char *why) {
   fprintf(stderr, "vectors: %s\n", why);
   exit(2);
 }
 
-/* ---- Lent memory: two pages of our own between two that may not be touched. */
+/* ---- Lent memory: pages of our own between two that may not be touched. */
 
 typedef struct {
   unsigned char *low;  /* the first octet that may be touched */
   unsigned char *high; /* the first octet behind */
 } fence;
 
-static fence new_fence(void) {
+/* A fence around so many octets, and up to a page more. */
+static fence new_fence(size_t octets) {
   size_t page = (size_t)sysconf(_SC_PAGESIZE), inner;
   unsigned char *all;
   fence made;
-  for (inner = page; inner < 2 * MOST_ROOM || inner < MOST_ELEMENTS; inner += page) {
+  for (inner = page; inner < octets; inner += page) {
   }
   all = (unsigned char *)mmap(NULL, inner + 2 * page, PROT_NONE, MAP_PRIVATE | MAP_ANONYMOUS, -1, 0);
   if (all == (unsigned char *)MAP_FAILED || mprotect(all + page, inner, PROT_READ | PROT_WRITE) != 0)
@@ -83,12 +85,15 @@ typedef struct {
 
 typedef struct {
   uint32_t service, count, room, refusal, position, written, holds, sequence, identifier, pages, total, number, used;
+  uint32_t mark, times, list, parts;
   int64_t left;
   uint16_t unit;
-  unsigned coding;
+  unsigned coding, reference;
   wikuay_reading reading;
   wikuay_block block;
+  run numbers; /* reference, total and number of a part, or none */
   run given, out;
+  run counts, sizes; /* octets beside those: of the parts that are joined, and of those that are written */
 } values;
 
 static values input, wanted, came;
@@ -302,6 +307,12 @@ static int parse_block(const char *text, wikuay_block *block) {
   return 1;
 }
 
+static int parse_octet(const char *text, unsigned *octet) {
+  if (strlen(text) != 2 || digit(text[0]) < 0 || digit(text[1]) < 0) return 0;
+  *octet = (unsigned)(16 * digit(text[0]) + digit(text[1]));
+  return 1;
+}
+
 static int same_elements(const run *a, const run *b, size_t digits) {
   if (a->length != b->length) return 0;
   return digits == 2 ? memcmp(a->octets, b->octets, a->length) == 0
@@ -330,6 +341,11 @@ enum {
   UNIT_ADDED,
   UNIT_TAKEN_BACK,
   METER_CLEARED,
+  READ_PART,
+  COUNT_PARTS,
+  WRITE_PART,
+  WRITE_PARTS,
+  JOIN_PARTS,
   CALLS
 };
 
@@ -360,6 +376,13 @@ static const call calls[CALLS] = {
     {"unit-added", "service used unit ", "refusal position left service used ", 0},
     {"unit-taken-back", "service used unit ", "refusal position left service used ", 0},
     {"meter-cleared", "service used ", "refusal position left service used ", 0},
+    {"read-part", "coding count mark octets room ", "refusal position written reading numbers out ", 4},
+    {"count-parts", "reading text times ", "refusal position parts ", 0},
+    {"write-part", "reading reference text times number room ",
+     "refusal position written mark count coding parts out ", 2},
+    {"write-parts", "reading reference text times room list ",
+     "refusal position written mark coding parts out sizes ", 2},
+    {"join-parts", "coding counts octets room ", "refusal position written reading reference parts out ", 4},
 };
 
 static int is(const char *key, size_t length, const char *word) {
@@ -368,7 +391,8 @@ static int is(const char *key, size_t length, const char *word) {
 
 /* The largest number that a key may have. */
 static uint32_t most_of(const char *key, size_t length) {
-  if (is(key, length, "room")) return MOST_ROOM;
+  if (is(key, length, "room") || is(key, length, "list")) return MOST_ROOM;
+  if (is(key, length, "mark")) return 1;
   if (is(key, length, "sequence") || is(key, length, "identifier")) return UINT16_MAX;
   return UINT32_MAX;
 }
@@ -386,11 +410,8 @@ static int parse_value(const char *key, size_t length, const char *text, size_t 
     if (found) v->holds = found->number;
     return found != NULL;
   }
-  if (is(key, length, "coding")) {
-    if (strlen(text) != 2 || digit(text[0]) < 0 || digit(text[1]) < 0) return 0;
-    v->coding = (unsigned)(16 * digit(text[0]) + digit(text[1]));
-    return 1;
-  }
+  if (is(key, length, "coding")) return parse_octet(text, &v->coding);
+  if (is(key, length, "reference")) return parse_octet(text, &v->reference);
   if (is(key, length, "left")) return parse_signed(text, &v->left);
   if (is(key, length, "unit")) {
     if (!parse_elements(text, 4, &v->given) || v->given.length != 1) return 0;
@@ -403,7 +424,11 @@ static int parse_value(const char *key, size_t length, const char *text, size_t 
   if (is(key, length, "septets") || is(key, length, "octets")) return parse_elements(text, 2, &v->given);
   if (is(key, length, "text")) return parse_elements(text, 4, &v->given);
   if (is(key, length, "out")) return parse_elements(text, out_digits, &v->out);
-  if (!parse_number(text, most_of(key, length), &number)) return 0;
+  if (is(key, length, "counts")) return parse_elements(text, 2, &v->counts);
+  if (is(key, length, "sizes")) return parse_elements(text, 2, &v->sizes);
+  if (is(key, length, "numbers"))
+    return parse_elements(text, 2, &v->numbers) && (v->numbers.length == 0 || v->numbers.length == 3);
+  if (!parse_number(text, most_of(key, length), &number) || (is(key, length, "times") && number == 0)) return 0;
   if (is(key, length, "room")) v->room = number;
   if (is(key, length, "count")) v->count = number;
   if (is(key, length, "refusal")) v->refusal = number;
@@ -415,15 +440,19 @@ static int parse_value(const char *key, size_t length, const char *text, size_t 
   if (is(key, length, "total")) v->total = number;
   if (is(key, length, "number")) v->number = number;
   if (is(key, length, "used")) v->used = number;
+  if (is(key, length, "mark")) v->mark = number;
+  if (is(key, length, "times")) v->times = number;
+  if (is(key, length, "list")) v->list = number;
+  if (is(key, length, "parts")) v->parts = number;
   return 1;
 }
 
-/* The parts from `from` up to `to` are exactly these keys with their values, in this order. */
-static int parse_values(char **parts, int from, int to, const char *keys, size_t out_digits, values *v) {
+/* The words from `from` up to `to` are exactly these keys with their values, in this order. */
+static int parse_values(char **words, int from, int to, const char *keys, size_t out_digits, values *v) {
   for (; *keys; from++) {
     size_t length = strcspn(keys, " ");
-    if (from == to || strncmp(parts[from], keys, length) != 0 || parts[from][length] != '=') return 0;
-    if (!parse_value(keys, length, parts[from] + length + 1, out_digits, v)) return 0;
+    if (from == to || strncmp(words[from], keys, length) != 0 || words[from][length] != '=') return 0;
+    if (!parse_value(keys, length, words[from] + length + 1, out_digits, v)) return 0;
     keys += length + 1;
   }
   return from == to;
@@ -449,6 +478,11 @@ static void print_values(const char *keys, size_t out_digits, const values *v) {
     if (is(keys, length, "total")) printf("%lu", (unsigned long)v->total);
     if (is(keys, length, "number")) printf("%lu", (unsigned long)v->number);
     if (is(keys, length, "used")) printf("%lu", (unsigned long)v->used);
+    if (is(keys, length, "mark")) printf("%lu", (unsigned long)v->mark);
+    if (is(keys, length, "parts")) printf("%lu", (unsigned long)v->parts);
+    if (is(keys, length, "reference")) printf("%02X", v->reference);
+    if (is(keys, length, "numbers")) print_elements(&v->numbers, 2);
+    if (is(keys, length, "sizes")) print_elements(&v->sizes, 2);
     if (is(keys, length, "left")) printf("%lld", (long long)v->left);
     if (is(keys, length, "service")) printf("%s", word_of(services, v->service));
     if (is(keys, length, "block")) print_block(&v->block);
@@ -466,14 +500,16 @@ static int same_values(const values *a, const values *b, size_t out_digits) {
   return a->refusal == b->refusal && a->position == b->position && a->written == b->written && a->count == b->count &&
          a->coding == b->coding && a->holds == b->holds && a->sequence == b->sequence &&
          a->identifier == b->identifier && a->pages == b->pages && a->total == b->total && a->number == b->number &&
-         a->service == b->service && a->used == b->used && a->left == b->left &&
+         a->service == b->service && a->used == b->used && a->left == b->left && a->mark == b->mark &&
+         a->parts == b->parts && a->reference == b->reference && same_elements(&a->numbers, &b->numbers, 2) &&
+         same_elements(&a->sizes, &b->sizes, 2) &&
          memcmp(&a->block, &b->block, sizeof a->block) == 0 && same_reading(&a->reading, &b->reading) &&
          (out_digits == 0 || same_elements(&a->out, &b->out, out_digits));
 }
 
 /* ---- Running. */
 
-static fence given_fence, out_fence;
+static fence given_fence, long_fence, counts_fence, out_fence, sizes_fence;
 static int wrong_silence; /* a value was set that the call's answer does not name */
 
 static void take(const wikuay_answer *a, int counts, int codes) {
@@ -533,6 +569,43 @@ static void take_joined(const wikuay_join_answer *a) {
   if (a->position > UINT32_MAX || a->written > UINT32_MAX) wrong_silence = 1;
 }
 
+static void take_parts(const wikuay_parts_answer *a, int writes, int counts) {
+  came.refusal = a->refusal;
+  came.position = (uint32_t)a->position;
+  came.written = (uint32_t)a->written;
+  came.count = a->count;
+  came.coding = a->coding;
+  came.mark = a->mark;
+  came.parts = a->parts;
+  if ((!writes && (a->written || a->coding || a->mark)) || (!counts && a->count) || a->position > UINT32_MAX ||
+      a->written > UINT32_MAX)
+    wrong_silence = 1;
+}
+
+static void take_part(const wikuay_part_answer *a) {
+  came.refusal = a->refusal;
+  came.position = (uint32_t)a->position;
+  came.written = (uint32_t)a->written;
+  came.reading = a->reading;
+  came.numbers.length = a->numbered ? 3 : 0;
+  came.numbers.octets[0] = a->reference;
+  came.numbers.octets[1] = a->total;
+  came.numbers.octets[2] = a->number;
+  if (a->numbered > 1 || (!a->numbered && (a->reference || a->total || a->number)) || a->position > UINT32_MAX ||
+      a->written > UINT32_MAX)
+    wrong_silence = 1;
+}
+
+static void take_joined_parts(const wikuay_parts_join_answer *a) {
+  came.refusal = a->refusal;
+  came.position = (uint32_t)a->position;
+  came.written = (uint32_t)a->written;
+  came.reading = a->reading;
+  came.reference = a->reference;
+  came.parts = a->parts;
+  if (a->position > UINT32_MAX || a->written > UINT32_MAX) wrong_silence = 1;
+}
+
 static void take_meter(const wikuay_meter_answer *a) {
   came.refusal = a->refusal;
   came.position = (uint32_t)a->position;
@@ -564,14 +637,27 @@ static wikuay_meter_answer press(int c) {
 
 /* Whether the elements that a call is given are units. */
 static int takes_units(int c) {
-  return c == TO_SEPTETS || c == WRITE_MESSAGE || c == COUNT_PAGES || c == BUILD_PAGE || c == WRITE_PAGES;
+  return c == TO_SEPTETS || c == WRITE_MESSAGE || c == COUNT_PAGES || c == BUILD_PAGE || c == WRITE_PAGES ||
+         c == COUNT_PARTS || c == WRITE_PART || c == WRITE_PARTS;
 }
 
-/* Runs the call with its buffers at a place. Answers the first touched element behind the written ones, or -1. */
-static long run_call(int c, int place) {
-  size_t wide = calls[c].digits / 2, in_wide = takes_units(c) ? 2 : 1;
-  size_t given_size = input.given.length * in_wide, out_size = input.room * wide, at, kept;
-  unsigned char *given = lend(given_fence, given_size, place), *out = lend(out_fence, out_size, place);
+/* Where an octet behind the first `kept` no longer holds the filling, or -1. */
+static long first_other(const unsigned char *octets, size_t kept, size_t size) {
+  for (; kept < size; kept++)
+    if (octets[kept] != 0xA5) return (long)kept;
+  return -1;
+}
+
+/* Runs the call with its buffers at a place. Answers the first touched element behind the written ones, or -1, and the
+   same of the second buffer in `listed`. */
+static long run_call(int c, int place, long *listed) {
+  size_t wide = calls[c].digits / 2, in_wide = takes_units(c) ? 2 : 1, turn;
+  size_t once = input.given.length * in_wide, given_len = input.given.length * input.times;
+  size_t given_size = given_len * in_wide, out_size = input.room * wide, at, kept;
+  const void *from = in_wide == 2 ? (const void *)input.given.units : (const void *)input.given.octets;
+  fence in_fence = given_size > (size_t)(given_fence.high - given_fence.low) ? long_fence : given_fence;
+  unsigned char *given = lend(in_fence, given_size, place), *out = lend(out_fence, out_size, place);
+  unsigned char *counts = lend(counts_fence, input.counts.length, place), *sizes = lend(sizes_fence, input.list, place);
   const uint16_t *given_units = (const uint16_t *)(void *)given;
   uint16_t *out_units = (uint16_t *)(void *)out;
   wikuay_answer a;
@@ -581,11 +667,16 @@ static long run_call(int c, int place) {
   wikuay_pages_answer pages;
   wikuay_page_answer page;
   wikuay_join_answer joined;
+  wikuay_part_answer part;
+  wikuay_parts_answer parts;
+  wikuay_parts_join_answer joined_parts;
   wikuay_meter_answer metered;
   wikuay_meter meter = {input.service, input.used};
   long touched;
-  memcpy(given, in_wide == 2 ? (const void *)input.given.units : (const void *)input.given.octets, given_size);
+  for (turn = 0; once && turn < input.times; turn++) memcpy(given + turn * once, from, once);
+  memcpy(counts, input.counts.octets, input.counts.length);
   memset(out, 0xA5, out_size);
+  memset(sizes, 0xA5, input.list);
   memset(&came, 0, sizeof came);
   came.reading = wikuay_plain();
   switch (c) {
@@ -602,28 +693,28 @@ static long run_call(int c, int place) {
       take_read(&r, 0, 1);
       break;
     case PACK:
-      a = wikuay_pack(input.service, given, input.given.length, out, input.room);
+      a = wikuay_pack(input.service, given, given_len, out, input.room);
       take(&a, 1, 0);
       break;
     case UNPACK:
-      a = wikuay_unpack(input.service, given, input.given.length, input.count, out, input.room);
+      a = wikuay_unpack(input.service, given, given_len, input.count, out, input.room);
       take(&a, 0, 0);
       break;
     case TO_SEPTETS:
-      a = wikuay_text_to_septets(given_units, input.given.length, out, input.room);
+      a = wikuay_text_to_septets(given_units, given_len, out, input.room);
       take(&a, 0, 0);
       break;
     case TO_TEXT:
-      a = wikuay_septets_to_text(given, input.given.length, out_units, input.room);
+      a = wikuay_septets_to_text(given, given_len, out_units, input.room);
       take(&a, 0, 0);
       break;
     case READ_MESSAGE:
-      r = wikuay_read_message(input.service, (uint8_t)input.coding, input.count, given, input.given.length, out_units,
+      r = wikuay_read_message(input.service, (uint8_t)input.coding, input.count, given, given_len, out_units,
                               input.room);
       take_read(&r, 1, 0);
       break;
     case WRITE_MESSAGE:
-      a = wikuay_write_message(input.service, input.reading, given_units, input.given.length, out, input.room);
+      a = wikuay_write_message(input.service, input.reading, given_units, given_len, out, input.room);
       take(&a, 1, 1);
       break;
     case READ_HEADER:
@@ -633,21 +724,21 @@ static long run_call(int c, int place) {
       take_header(&header);
       break;
     case COUNT_PAGES:
-      pages = wikuay_count_pages(input.reading, given_units, input.given.length);
+      pages = wikuay_count_pages(input.reading, given_units, given_len);
       take_pages(&pages, 0);
       break;
     case BUILD_PAGE:
       page = wikuay_build_page((uint16_t)input.sequence, (uint16_t)input.identifier, input.reading, given_units,
-                               input.given.length, input.number);
+                               given_len, input.number);
       take_page(&page);
       break;
     case WRITE_PAGES:
       pages = wikuay_write_pages((uint16_t)input.sequence, (uint16_t)input.identifier, input.reading, given_units,
-                                 input.given.length, out, input.room);
+                                 given_len, out, input.room);
       take_pages(&pages, 1);
       break;
     case JOIN_PAGES:
-      joined = wikuay_join_pages(given, input.given.length, out_units, input.room);
+      joined = wikuay_join_pages(given, given_len, out_units, input.room);
       take_joined(&joined);
       break;
     case NEW_METER:
@@ -658,13 +749,38 @@ static long run_call(int c, int place) {
       metered = wikuay_room_left(meter);
       take_meter(&metered);
       break;
+    case READ_PART:
+      part = wikuay_read_part((uint8_t)input.coding, input.count, (uint8_t)input.mark, given, given_len, out_units,
+                              input.room);
+      take_part(&part);
+      break;
+    case COUNT_PARTS:
+      parts = wikuay_count_parts(input.reading, given_units, given_len);
+      take_parts(&parts, 0, 0);
+      break;
+    case WRITE_PART:
+      parts = wikuay_write_part(input.reading, (uint8_t)input.reference, given_units, given_len, input.number, out,
+                                input.room);
+      take_parts(&parts, 1, 1);
+      break;
+    case WRITE_PARTS:
+      parts = wikuay_write_parts(input.reading, (uint8_t)input.reference, given_units, given_len, out, input.room,
+                                 sizes, input.list);
+      take_parts(&parts, 1, 0);
+      break;
+    case JOIN_PARTS:
+      joined_parts = wikuay_join_parts((uint8_t)input.coding, counts, input.counts.length, given, given_len, out_units,
+                                       input.room);
+      take_joined_parts(&joined_parts);
+      break;
     default:
       metered = press(c);
       take_meter(&metered);
       break;
   }
-  if (memcmp(given, in_wide == 2 ? (const void *)input.given.units : (const void *)input.given.octets, given_size) != 0)
-    fail("a call stored into its input");
+  for (turn = 0; once && turn < input.times; turn++)
+    if (memcmp(given + turn * once, from, once) != 0) fail("a call stored into its input");
+  if (memcmp(counts, input.counts.octets, input.counts.length) != 0) fail("a call stored into its input");
   kept = came.written < input.room ? came.written : input.room;
   came.out.length = wide ? kept : 0;
   if (wide == 1) memcpy(came.out.octets, out, kept);
@@ -672,7 +788,11 @@ static long run_call(int c, int place) {
   for (at = kept; wide && at < input.room; at++)
     if (wide == 1 ? out[at] != 0xA5 : out_units[at] != 0xA5A5) break;
   touched = wide && at < input.room ? (long)at : -1;
-  if (!take_back(out_fence, out, out_size, place) || !take_back(given_fence, given, given_size, place))
+  came.sizes.length = (size_t)2 * came.parts < input.list ? (size_t)2 * came.parts : input.list;
+  memcpy(came.sizes.octets, sizes, came.sizes.length);
+  *listed = first_other(sizes, came.sizes.length, input.list);
+  if (!take_back(out_fence, out, out_size, place) || !take_back(in_fence, given, given_size, place) ||
+      !take_back(counts_fence, counts, input.counts.length, place) || !take_back(sizes_fence, sizes, input.list, place))
     fail("a call stored outside its buffer");
   return touched;
 }
@@ -680,10 +800,10 @@ static long run_call(int c, int place) {
 /* Answers whether the line agrees; prints it where not. */
 static int run_line(char *line, size_t length, unsigned long number) {
   static values first;
-  char *parts[MOST_PARTS + 1];
+  char *words[MOST_WORDS];
   int count = 0, colon = -1, c = 0, place;
   size_t at;
-  long touched;
+  long touched, listed, again;
   if (length > LONGEST) {
     printf("line %lu: longer than %d characters\n", number, LONGEST);
     return 0;
@@ -691,37 +811,40 @@ static int run_line(char *line, size_t length, unsigned long number) {
   for (at = 0; at < length; at++)
     if (line[at] < ' ' || '~' < line[at]) goto no_case;
   for (at = 0; at <= length; at++) {
-    if (count == MOST_PARTS) goto no_case;
-    parts[count] = line + at;
+    if (count == MOST_WORDS) goto no_case;
+    words[count] = line + at;
     at += strcspn(line + at, " ");
     line[at] = 0;
-    if (count >= 2 && colon < 0 && strcmp(parts[count], ":") == 0) colon = count;
+    if (count >= 2 && colon < 0 && strcmp(words[count], ":") == 0) colon = count;
     count++;
   }
-  if (colon < 0 || strlen(parts[0]) == 0 || strlen(parts[0]) > 64 ||
-      parts[0][strspn(parts[0], "ABCDEFGHIJKLMNOPQRSTUVWXYZabcdefghijklmnopqrstuvwxyz0123456789.-_")] != 0)
+  if (colon < 0 || strlen(words[0]) == 0 || strlen(words[0]) > 64 ||
+      words[0][strspn(words[0], "ABCDEFGHIJKLMNOPQRSTUVWXYZabcdefghijklmnopqrstuvwxyz0123456789.-_")] != 0)
     goto no_case;
-  while (c < CALLS && strcmp(parts[1], calls[c].name) != 0) c++;
+  while (c < CALLS && strcmp(words[1], calls[c].name) != 0) c++;
   if (c == CALLS) goto no_case;
   memset(&input, 0, sizeof input);
   memset(&wanted, 0, sizeof wanted);
   input.reading = wanted.reading = wikuay_plain();
-  if (!parse_values(parts, 2, colon, calls[c].inputs, calls[c].digits, &input) ||
-      !parse_values(parts, colon + 1, count, calls[c].answer, calls[c].digits, &wanted))
+  input.times = 1;
+  if (!parse_values(words, 2, colon, calls[c].inputs, calls[c].digits, &input) ||
+      !parse_values(words, colon + 1, count, calls[c].answer, calls[c].digits, &wanted) ||
+      (uint64_t)input.given.length * input.times > MOST_TEXT)
     goto no_case;
   wrong_silence = 0;
-  touched = run_call(c, LOW);
+  touched = run_call(c, LOW, &listed);
   first = came;
   for (place = HIGH; place < PLACES; place++)
-    if (run_call(c, place) != touched || !same_values(&first, &came, calls[c].digits))
+    if (run_call(c, place, &again) != touched || again != listed || !same_values(&first, &came, calls[c].digits))
       fail("a call answers by where its buffers lie");
   if (wrong_silence) fail("a call sets a value that its answer does not name");
-  if (touched < 0 && same_values(&wanted, &came, calls[c].digits)) return 1;
-  printf("%s: expected ", parts[0]);
+  if (touched < 0 && listed < 0 && same_values(&wanted, &came, calls[c].digits)) return 1;
+  printf("%s: expected ", words[0]);
   print_values(calls[c].answer, calls[c].digits, &wanted);
   printf("; came ");
   print_values(calls[c].answer, calls[c].digits, &came);
   if (touched >= 0) printf(" touched=%ld", touched);
+  if (listed >= 0) printf(" listed=%ld", listed);
   printf("\n");
   return 0;
 no_case:
@@ -733,8 +856,11 @@ int main(int words, char **word) {
   static char line[LONGEST + 3];
   unsigned long number = 0, cases = 0, differ = 0;
   int c;
-  given_fence = new_fence();
-  out_fence = new_fence();
+  given_fence = new_fence(MOST_ELEMENTS);
+  long_fence = new_fence(2 * MOST_TEXT);
+  counts_fence = new_fence(MOST_ELEMENTS);
+  out_fence = new_fence(2 * MOST_ROOM);
+  sizes_fence = new_fence(MOST_ROOM);
   if (words == 2 && strcmp(word[1], "low") == 0) *((volatile unsigned char *)out_fence.low - 1) = 1;
   if (words == 2 && strcmp(word[1], "high") == 0) *(volatile unsigned char *)out_fence.high = 1;
   if (words != 1) fail("the argument is none, low or high, and the last two do not come back");
