@@ -20,8 +20,9 @@
 enum { ROUNDS = 31, COUNTS = 3, MOST_SIDES = 8 };
 
 static one_case given;
-static uint8_t octets[PAGES_OCTETS];
-static uint16_t units[PAGES_UNITS];
+static uint8_t octets[PARTS_OCTETS];
+static uint16_t units[PARTS_UNITS];
+static uint8_t sizes[PARTS_SIZES];
 
 static void out_to_answer(one_answer *got) {
   if (given.writing) memcpy(got->octets, octets, sizeof octets);
@@ -39,16 +40,22 @@ static wikuay_pages_answer paged;
 static wikuay_page_answer built;
 static wikuay_join_answer joined;
 static wikuay_meter_answer keyed;
-static size_t number; /* of the page that is built: the last one */
+static wikuay_parts_answer parted;
+static wikuay_part_answer part;
+static wikuay_parts_join_answer rejoined;
+static size_t number; /* of the page that is built, or the part that is written alone: the last one */
 static uint32_t service; /* of one message, as the calls name it */
 
-enum { SEQUENCE = 0x1234, IDENTIFIER = 50 };
+enum { SEQUENCE = 0x1234, IDENTIFIER = 50, REFERENCE = 0xC7 };
 
-/* Whether the case is one of several pages. */
+/* Whether the case is one of several pages, or of parts. */
 static int is_paged(void) { return given.service == PAGES || given.service == BUILT; }
+static int is_parted(void) { return given.service == PARTS || given.service == PART; }
 
-/* How much of a text a page holds. */
+/* How much of a text a page holds, or a part, and a short message by itself. */
 static size_t page_room(void) { return given.alphabet == 2 ? 41 : 93; }
+static size_t part_room(void) { return given.alphabet == 2 ? 67 : 153; }
+static size_t alone_room(void) { return given.alphabet == 2 ? 70 : 160; }
 
 static const char *ours_prepare(const one_case *c) {
   reading = wikuay_plain();
@@ -61,6 +68,7 @@ static const char *ours_prepare(const one_case *c) {
     reading.second_letter = 'n';
   }
   number = c->length == 0 ? 1 : (c->length + page_room() - 1) / page_room();
+  if (c->service == PART) number = c->length <= alone_room() ? 1 : (c->length + part_room() - 1) / part_room();
   return NULL;
 }
 
@@ -84,7 +92,20 @@ static void ours_run_keys(void) {
   }
 }
 
+static void ours_run_parts(void) {
+  if (given.service == PART && given.writing)
+    parted = wikuay_write_part(reading, REFERENCE, given.text, given.units, number, octets, ROOM_OCTETS);
+  else if (given.service == PART)
+    part = wikuay_read_part(given.coding, given.count, given.mark, given.octets, given.octets_len, units, ROOM_UNITS);
+  else if (given.writing)
+    parted = wikuay_write_parts(reading, REFERENCE, given.text, given.units, octets, PARTS_OCTETS, sizes, PARTS_SIZES);
+  else
+    rejoined = wikuay_join_parts(given.coding, given.counts, given.parts, given.octets, given.octets_len, units, PARTS_UNITS);
+}
+
 static call ours_entry(void) {
+  if (given.service == PARTS) return given.writing ? (call)wikuay_write_parts : (call)wikuay_join_parts;
+  if (given.service == PART) return given.writing ? (call)wikuay_write_part : (call)wikuay_read_part;
   if (given.service == METER) return given.writing ? (call)wikuay_unit_added : (call)wikuay_unit_taken_back;
   if (given.service == BUILT) return (call)wikuay_build_page;
   if (given.service == PAGES) return given.writing ? (call)wikuay_write_pages : (call)wikuay_join_pages;
@@ -134,13 +155,42 @@ static void key_to_answer(one_answer *got, wikuay_meter_answer keyed) {
   got->written = 0;
 }
 
+/* The same of parts. */
+static void parts_to_answer(one_answer *got, wikuay_parts_answer parted, wikuay_part_answer part, wikuay_parts_join_answer rejoined) {
+  if (given.writing) {
+    got->refusal = parted.refusal;
+    got->position = parted.position;
+    got->written = parted.written;
+    got->count = parted.parts;
+    got->coding = parted.coding;
+    got->numbers = parted.count << 8 | parted.mark;
+    memcpy(got->sizes, sizes, sizeof sizes);
+  } else if (given.service == PART) {
+    got->refusal = part.refusal;
+    got->position = part.position;
+    got->written = part.written;
+    got->count = part.numbered;
+    got->coding = part.reading.alphabet;
+    got->numbers = (uint32_t)part.reference << 16 | (uint32_t)part.total << 8 | part.number;
+  } else {
+    got->refusal = rejoined.refusal;
+    got->position = rejoined.position;
+    got->written = rejoined.written;
+    got->count = rejoined.parts;
+    got->coding = rejoined.reading.alphabet;
+    got->numbers = rejoined.reference;
+  }
+  out_to_answer(got);
+}
+
 static void ours_answer(one_answer *got) {
   if (given.service == METER) key_to_answer(got, keyed);
+  else if (is_parted()) parts_to_answer(got, parted, part, rejoined);
   else if (is_paged()) pages_to_answer(got, paged, &built, joined);
   else to_answer(got, wrote, read);
 }
 
-static const side ours = { "wikuay", nothing_to_load, ours_prepare, ours_run, ours_run_pages, ours_answer, ours_run_keys };
+static const side ours = { "wikuay", nothing_to_load, ours_prepare, ours_run, ours_run_pages, ours_answer, ours_run_keys, ours_run_parts };
 
 /* ---- the plain C loop ---- */
 
@@ -150,6 +200,9 @@ static wikuay_pages_answer plain_paged;
 static wikuay_page_answer plain_built;
 static wikuay_join_answer plain_joined;
 static wikuay_meter_answer plain_keyed;
+static wikuay_parts_answer plain_parted;
+static wikuay_part_answer plain_part;
+static wikuay_parts_join_answer plain_rejoined;
 
 static void plain_run_pages(void) {
   if (given.service == BUILT) plain_built = plain_build_page(SEQUENCE, IDENTIFIER, reading, given.text, given.units, number);
@@ -171,17 +224,29 @@ static void plain_run_keys(void) {
   }
 }
 
+static void plain_run_parts(void) {
+  if (given.service == PART && given.writing)
+    plain_parted = plain_write_part(reading, REFERENCE, given.text, given.units, number, octets, ROOM_OCTETS);
+  else if (given.service == PART)
+    plain_part = plain_read_part(given.coding, given.count, given.mark, given.octets, given.octets_len, units, ROOM_UNITS);
+  else if (given.writing)
+    plain_parted = plain_write_parts(reading, REFERENCE, given.text, given.units, octets, PARTS_OCTETS, sizes, PARTS_SIZES);
+  else
+    plain_rejoined = plain_join_parts(given.coding, given.counts, given.parts, given.octets, given.octets_len, units, PARTS_UNITS);
+}
+
 static void plain_result(one_answer *got) {
   if (given.service == METER) key_to_answer(got, plain_keyed);
+  else if (is_parted()) parts_to_answer(got, plain_parted, plain_part, plain_rejoined);
   else if (is_paged()) pages_to_answer(got, plain_paged, &plain_built, plain_joined);
   else to_answer(got, plain_wrote, plain_got);
 }
 
-static const side plain = { "plain", nothing_to_load, ours_prepare, plain_run, plain_run_pages, plain_result, plain_run_keys };
+static const side plain = { "plain", nothing_to_load, ours_prepare, plain_run, plain_run_pages, plain_result, plain_run_keys, plain_run_parts };
 
 /* ---- the floors: a copy of the message's octets, and for UCS2 the loop that swaps them ---- */
 
-static uint8_t copied[PAGES_OCTETS];
+static uint8_t copied[PARTS_OCTETS];
 
 /* The texts of these kinds are refused for their last unit. */
 static int is_refused(const char *kind) { return strcmp(kind, "refused") == 0 || strcmp(kind, "circumflex") == 0; }
@@ -200,7 +265,7 @@ static void copy_answer(one_answer *got) {
   }
 }
 
-static const side copy = { "copy", nothing_to_load, copy_prepare, copy_run, copy_run, copy_answer, NULL };
+static const side copy = { "copy", nothing_to_load, copy_prepare, copy_run, copy_run, copy_answer, NULL, copy_run };
 
 static const char *swap_prepare(const one_case *c) {
   return c->alphabet == 2 && c->service == SMS ? NULL : "is for UCS2 in one message";
@@ -216,7 +281,7 @@ static void swap_answer(one_answer *got) {
   out_to_answer(got);
 }
 
-static const side swap = { "swap", nothing_to_load, swap_prepare, swap_run, NULL, swap_answer, NULL };
+static const side swap = { "swap", nothing_to_load, swap_prepare, swap_run, NULL, swap_answer, NULL, NULL };
 
 /* ---- one case ---- */
 
@@ -230,16 +295,19 @@ static int counts_len = COUNTS;
 static const char *service_name(void) {
   static const char *const names[][2] = {
     { "sms", "sms-ucs2" }, { "page", "" }, { "ussd", "" }, { "pages", "pages-ucs2" }, { "built", "built-ucs2" },
-    { "lettered", "lettered-ucs2" }, { "meter", "" },
+    { "lettered", "lettered-ucs2" }, { "meter", "" }, { "parts", "parts-ucs2" }, { "part", "part-ucs2" },
   };
   return names[given.service][given.alphabet == 2];
 }
 
-static call call_of(const side *s) { return given.service == METER ? s->run_keys : is_paged() ? s->run_pages : s->run; }
+static call call_of(const side *s) {
+  return given.service == METER ? s->run_keys : is_parted() ? s->run_parts : is_paged() ? s->run_pages : s->run;
+}
 
 static void run_side(const side *s, one_answer *got) {
   memset(octets, 0xA5, sizeof octets);
   memset(units, 0xA5, sizeof units);
+  memset(sizes, 0xA5, sizeof sizes);
   call_of(s)();
   s->answer(got);
 }
@@ -250,7 +318,7 @@ static void say_answer(const one_answer *a) {
     return;
   }
   fprintf(stderr, "%zu %s, count %u, the last", a->written, given.writing ? "octets" : "units", (unsigned)a->count);
-  for (size_t i = a->written > 3 ? a->written - 3 : 0; i < a->written && i < PAGES_OCTETS; i++)
+  for (size_t i = a->written > 3 ? a->written - 3 : 0; i < a->written && i < PARTS_OCTETS; i++)
     fprintf(stderr, given.writing ? " %02X" : " %04X", given.writing ? a->octets[i] : a->units[i]);
 }
 
@@ -258,6 +326,7 @@ static int same(const one_answer *a, const one_answer *b) {
   if (a->refusal != b->refusal || a->position != b->position || a->written != b->written) return 0;
   if (a->refusal != 0) return 1;
   if (a->count != b->count || a->coding != b->coding || a->numbers != b->numbers) return 0;
+  if (given.service == PARTS && given.writing && memcmp(a->sizes, b->sizes, 2 * a->count) != 0) return 0;
   return given.writing ? memcmp(a->octets, b->octets, a->written) == 0
                        : memcmp(a->units, b->units, a->written * sizeof a->units[0]) == 0;
 }
@@ -364,7 +433,7 @@ static void make_text(size_t length) {
   if (strcmp(given.kind, "accent") == 0) given.text[given.units - 1] = 0x00E9;
 }
 
-/* To read, and to copy: what the library writes for the text. To be joined, the last page comes first. */
+/* To read, and to copy: what the library writes for the text. To be joined, the last page comes first, and so does the last part. */
 static void write_octets(void) {
   int writing = given.writing;
   if (given.service == BUILT || given.service == METER) return;
@@ -376,6 +445,23 @@ static void write_octets(void) {
     given.octets_len = paged.written;
     for (size_t from = 0; from < paged.written; from += BLOCK)
       memcpy(given.octets + (writing ? from : paged.written - BLOCK - from), octets + from, BLOCK);
+    return;
+  }
+  if (is_parted()) {
+    given.octets_len = parted.written;
+    given.coding = parted.coding;
+    given.count = parted.count;
+    given.mark = parted.mark;
+    given.parts = parted.parts;
+    if (writing || given.service == PART) {
+      memcpy(given.octets, octets, parted.written);
+      return;
+    }
+    /* All parts but the last have 140 octets. */
+    for (size_t k = parted.parts, used = 0; k-- > 0; used += sizes[2 * k + 1]) {
+      memcpy(given.octets + used, octets + 140 * k, sizes[2 * k + 1]);
+      given.counts[parted.parts - 1 - k] = sizes[2 * k];
+    }
     return;
   }
   memcpy(given.octets, octets, wrote.written);
@@ -471,6 +557,48 @@ static void do_all_pages(int all) {
   counts_len = counts;
 }
 
+/* Parts: a text that fits alone, the shortest one that does not, and parts filled to their end. Many are of letters and of UCS2 alone, and 255 are
+   not counted with the listed lengths: the trap flag takes its time. What a part costs to read is no matter of the others. */
+static void do_parts(const char *kind, int all) {
+  static const size_t listed[] = { 1, 2, 4, 12, 255 }, every[] = { 1, 2, 3, 4, 5, 6, 7, 8, 12, 255 };
+  int two = strcmp(kind, "extension") == 0, full = strcmp(kind, "letters") == 0 || strcmp(kind, "han") == 0;
+  size_t most = full && given.service == PARTS && (all || timing) ? 255 : full || all || timing ? 12 : 4;
+  if (given.service == PART && !given.writing) most = 2;
+  given.kind = kind;
+  fprintf(stderr, "bench: %s %s %s\n", given.writing ? "write" : "read", service_name(), kind);
+  for (size_t i = 0; i < (all ? sizeof every : sizeof listed) / sizeof listed[0]; i++) {
+    size_t parts = all ? every[i] : listed[i];
+    for (size_t over = 0; over <= 1 && parts <= most; over++) {
+      size_t length = (parts == 1 ? alone_room() : parts * part_room()) + over;
+      if (over == 1 && parts > 1) continue;
+      /* An extension letter takes two septets: parts of an odd length are one short, and one over what fits alone is two letters. */
+      if (two && length % 2 != 0) length += over == 1 ? 1 : (size_t)-1;
+      /* Nothing is joined that has no header. */
+      if (given.service == PARTS && !given.writing && length <= alone_room()) continue;
+      make_text(length);
+      write_octets();
+      do_case();
+    }
+  }
+}
+
+/* One count does: other texts show that it repeats. */
+static void do_all_parts(int all) {
+  int counts = counts_len;
+  counts_len = 1;
+  for (given.service = PARTS; given.service <= PART; given.service++) {
+    given.alphabet = 0;
+    do_parts("letters", all);
+    do_parts("accent", all);
+    do_parts("extension", all);
+    if (given.writing) do_parts("refused", all);
+    if (given.writing) do_parts("circumflex", all);
+    given.alphabet = 2;
+    do_parts("han", all);
+  }
+  counts_len = counts;
+}
+
 /* ---- the library's other calls: instructions and stack, with nothing beside them ---- */
 
 static uint8_t septets[182];
@@ -484,6 +612,7 @@ static void run_septets_to_text(void) { wrote = wikuay_septets_to_text(septets, 
 static void run_pack(void) { wrote = wikuay_pack(WIKUAY_USSD, septets, 182, octets, 160); }
 static void run_unpack(void) { wrote = wikuay_unpack(WIKUAY_USSD, octets, 160, 0, septets, 182); }
 static void run_count_pages(void) { paged = wikuay_count_pages(reading, given.text, PAGES_UNITS); }
+static void run_count_parts(void) { parted = wikuay_count_parts(reading, given.text, 12 * 153); }
 static wikuay_block_header header;
 static void run_read_header(void) { header = wikuay_read_header(built.block); }
 static void run_new_meter(void) { keyed = wikuay_new_meter(WIKUAY_USSD); }
@@ -508,6 +637,7 @@ static void do_other_calls(void) {
     { "wikuay_read_message", "old page, letters", 93, run_old_page, (call)wikuay_read_message },
     { "wikuay_count_pages", "letters", PAGES_UNITS, run_count_pages, (call)wikuay_count_pages },
     { "wikuay_read_header", "a block", 0, run_read_header, (call)wikuay_read_header },
+    { "wikuay_count_parts", "letters", 12 * 153, run_count_parts, (call)wikuay_count_parts },
     { "wikuay_new_meter", "USSD", 0, run_new_meter, (call)wikuay_new_meter },
     { "wikuay_room_left", "USSD", 0, run_room_left, (call)wikuay_room_left },
     { "wikuay_meter_cleared", "USSD", 0, run_meter_cleared, (call)wikuay_meter_cleared },
@@ -515,11 +645,11 @@ static void do_other_calls(void) {
   fprintf(stderr, "bench: the other calls\n");
   memset(&keyed, 0, sizeof keyed);
   given.kind = "letters";
-  make_text(PAGES_UNITS);
+  make_text(12 * 153);
   reading = wikuay_plain();
   for (size_t i = 0; i < sizeof others / sizeof others[0]; i++) {
     others[i].run();
-    if (wrote.refusal != 0 || read.refusal != 0 || paged.refusal != 0 || keyed.refusal != 0) {
+    if (wrote.refusal != 0 || read.refusal != 0 || paged.refusal != 0 || keyed.refusal != 0 || parted.refusal != 0) {
       fprintf(stderr, "bench: %s refuses\n", others[i].name);
       exit(1);
     }
@@ -612,6 +742,7 @@ int main(int words_len, char **words) {
     do_lettered(all);
     do_meter(all);
     do_all_pages(all);
+    do_all_parts(all);
   }
   if (!timing) do_other_calls();
   return plain_differs;

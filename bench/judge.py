@@ -27,6 +27,19 @@ PAGED = {"pages": 93, "pages-ucs2": 41, "built": 93, "built-ucs2": 41}
 MOST_PAGES = 15
 # Texts that fill a page to its end, so that a page of them is a part of many.
 LINEAR = ("letters", "han")
+# Long short messages, all parts and the last one alone: what a part of each holds, septets or units.
+PARTED = {"parts": 153, "parts-ucs2": 67, "part": 153, "part-ucs2": 67}
+# What fits alone, and so has no header: septets.
+ALONE = 160
+MOST_PARTS = 255
+# All parts of letters cost to write at most so many times as many short messages of 160 letters.
+PARTS_AGAINST_MESSAGES = 1.2
+# How often the plain loop's cost is allowed to the calls on parts, where once is not kept. A text that is not all letters is counted in a pass of its own before
+# it is written; to write its last part alone, those before it are encoded too. Of UCS2 the plain loop is vector code from end to end.
+PART_TIMES = {("write", "parts", "accent"): 1.1, ("write", "part", "accent"): 1.5,
+              ("write", "parts", "extension"): 1.6, ("write", "part", "extension"): 2.7,
+              ("write", "parts-ucs2", "han"): 1.3, ("write", "part-ucs2", "han"): 1.4,
+              ("read", "parts-ucs2", "han"): 1.7, ("read", "part-ucs2", "han"): 1.9}
 # How often the plain loop's cost is allowed, where once is not kept: of UCS2 the plain loop is vector code from end to end, and a page built
 # of extension letters pays for the septets of all pages.
 TIMES = {("write", "pages-ucs2"): 1.05, ("write", "built-ucs2"): 1.45, ("read", "pages-ucs2"): 3, ("write", "built"): 1.2,
@@ -34,14 +47,20 @@ TIMES = {("write", "pages-ucs2"): 1.05, ("write", "built-ucs2"): 1.45, ("read", 
 # Texts that are refused for their last unit, and the accepted text that the same pass judges: its last unit is listed, and is not its own code.
 REFUSED = ("refused", "circumflex")
 ACCEPTED = "accent"
-ARCHIVE_OCTETS = 32 * 1024
+ARCHIVE_OCTETS = 44 * 1024
 STACK_OCTETS = 1024
 # The septets of 15 pages stand in an array of 1,395 octets, their units of UCS2 in one of 1,230.
 PAGED_STACK_OCTETS = 2304
+# The calls on parts hold no more than the calls on pages do, whatever the text's length.
+PARTED_STACK_OCTETS = 2304
 # From this length on the library is at least as fast as the plain loop. Eight units with an accented one are tested in vain, and lose a tenth.
 FROM = 8
 FROM_ACCEPTED = 9
-MOST_LINES = 600
+# Behind a header fewer septets than these have no limit to read: what is told of a part costs more than they do.
+FROM_BEHIND = 16
+MOST_LINES = 1000
+# Services that are held to the plain loop by instructions alone, and not by times.
+COUNTED = {*PAGED, *PARTED, *LETTERED_UCS2, *KEYS}
 # What the archive may ask of its caller's C library: plain memory, and no storage.
 MAY_ASK = {"memcpy", "memmove", "memset", "memcmp", "bcmp"}
 
@@ -59,6 +78,24 @@ def read_table(lines):
                         None if cost == "-" else float(cost),
                         None if field.get("stack", "-") == "-" else int(field["stack"])))
     return rows, timed
+
+
+def allowed(direction, service, text):
+    """How often the plain loop's cost is allowed to a call."""
+    if service in KEYS:
+        return KEY_TIMES.get(text, OTHER_KEYS)
+    return PART_TIMES.get((direction, service, text), TIMES.get((direction, service), 1))
+
+
+def held_to_plain(row):
+    """Whether a text is long enough to be held to the plain loop."""
+    if (row.direction, row.service) == ("read", "part") and row.length > ALONE:
+        return row.length - PARTED["part"] >= FROM_BEHIND
+    return row.length >= (FROM_ACCEPTED if row.text == ACCEPTED else FROM)
+
+
+def stack_allowed(service):
+    return PAGED_STACK_OCTETS if service in PAGED else PARTED_STACK_OCTETS if service in PARTED else STACK_OCTETS
 
 
 def broken_by_figures(rows, timed):
@@ -85,14 +122,12 @@ def broken_by_figures(rows, timed):
             if not timed:
                 accepted = cost.get((r.direction, r.service, ACCEPTED, r.length, "wikuay"))
                 hold(f"{name}: a refusal against the accepted text", r.cost, accepted)
-        elif (r.service in PAGED or r.service in LETTERED_UCS2 or r.service in KEYS) and timed:
+        elif timed and r.service in COUNTED:
             continue
-        elif (r.service in FULL or r.service in PAGED or r.service in LETTERED_UCS2 or r.service in KEYS) and r.length >= (FROM_ACCEPTED if r.text == ACCEPTED else FROM):
+        elif (r.service in FULL or r.service in COUNTED) and held_to_plain(r):
             plain = cost.get(key + ("plain",))
             # The spread of a time is not a fault: a tenth is allowed there.
-            times = TIMES.get((r.direction, r.service), 1) * (1.1 if timed else 1)
-            if r.service in KEYS:
-                times = KEY_TIMES.get(r.text, OTHER_KEYS)
+            times = allowed(r.direction, r.service, r.text) * (1.1 if timed else 1)
             hold(f"{name}: against the plain loop", r.cost, plain and plain * times)
         if not timed and r.text == "letters" and r.length == FULL.get(r.service):
             hold(f"{name}: instructions", r.cost, MOST[r.direction] * r.length // FULL["sms"])
@@ -102,6 +137,15 @@ def broken_by_figures(rows, timed):
             single = cost.get((r.direction, r.service, r.text, PAGED[r.service], "wikuay"))
             if pages > 1 and over == 0:
                 hold(f"{name}: against as many single pages", r.cost, single and pages * single)
+        if not timed and r.service in PARTED and r.text in LINEAR:
+            # Whole parts cost no more than as many halves of a message of two.
+            parts, over = divmod(r.length, PARTED[r.service])
+            pair = cost.get((r.direction, r.service, r.text, 2 * PARTED[r.service], "wikuay"))
+            if parts > 2 and over == 0:
+                hold(f"{name}: against as many halves of two parts", r.cost, pair and parts * pair / 2)
+            if parts > 1 and over == 0 and (r.direction, r.service) == ("write", "parts"):
+                single = cost.get(("write", "sms", "letters", FULL["sms"], "wikuay"))
+                hold(f"{name}: against as many messages of 160 letters", r.cost, single and PARTS_AGAINST_MESSAGES * parts * single)
         if not timed and r.service in KEYS and r.text in ("letters", "extension"):
             # A key takes the same time whatever was typed before: many cost no more than as many first ones.
             each = 2 if r.text == "extension" else 1
@@ -112,7 +156,7 @@ def broken_by_figures(rows, timed):
             swap = cost.get(key + ("swap",))
             hold(f"{name}: against twice the loop that swaps", r.cost, swap and 2 * swap)
         if not timed:
-            hold(f"{name}: octets of stack", r.stack, (PAGED_STACK_OCTETS if r.service in PAGED else STACK_OCTETS) - 1)
+            hold(f"{name}: octets of stack", r.stack, stack_allowed(r.service) - 1)
     return broken, judged
 
 
@@ -200,6 +244,14 @@ def self_test():
                 each = 9.0 * pages * room
                 rows.append(Row(direction, service, text, pages * room, "wikuay", "same", each, 2000))
                 rows.append(Row(direction, service, text, pages * room, "plain", "same", each / TIMES.get((direction, service), 1), None))
+        for service, room in PARTED.items():
+            for text in ("han",) if service.endswith("ucs2") else ("letters", "extension", ACCEPTED) + REFUSED:
+                if text in REFUSED and direction == "read":
+                    continue
+                for parts in (2, 3, MOST_PARTS):
+                    each = 9.0 * parts * room
+                    rows.append(Row(direction, service, text, parts * room, "wikuay", "same", each, 2000))
+                    rows.append(Row(direction, service, text, parts * room, "plain", "same", each / allowed(direction, service, text), None))
     clean, judged = broken_by_figures(rows, False)
     assert clean == [] and judged > 40, (clean, judged)
 
@@ -221,7 +273,7 @@ def self_test():
             breaks(": instructions", whole, cost=MOST[direction] * full // 160 + 1)
             breaks("plain loop", whole, cost=9.0 * full + 1)
     breaks("plain loop", lambda r: is_ours(r) and r.service in FULL and r.text == "extension" and r.length >= FROM, cost=9.0 * 1395 + 1)
-    breaks("a refusal", lambda r: is_ours(r) and r.text in REFUSED, cost=9.0 * 1395 + 1)
+    breaks("a refusal", lambda r: is_ours(r) and r.text in REFUSED, cost=9.0 * 39015 + 1)
     breaks("plain loop", lambda r: is_ours(r) and r.service in LETTERED_UCS2 and r.length >= FROM, cost=9.0 * 1395 + 1)
     breaks("plain loop", lambda r: is_ours(r) and r.service in KEYS and r.length >= FROM, cost=9.0 * 1395 + 1)
     breaks("as many first keys", lambda r: is_ours(r) and r.service in KEYS and r.length >= FROM, cost=9.0 * 1395 + 1)
@@ -233,8 +285,17 @@ def self_test():
             breaks("plain loop", whole_pages, cost=9.0 * pages * room + 1)
             if pages > 1:
                 breaks("as many single pages", whole_pages, cost=9.0 * pages * room + 1)
-    breaks("octets of stack", lambda r: is_ours(r) and r.service not in PAGED, stack=STACK_OCTETS)
-    breaks("octets of stack", is_ours, stack=PAGED_STACK_OCTETS)
+    for parts in (2, 3, MOST_PARTS):
+        def whole_parts(r):
+            return is_ours(r) and r.service in PARTED and r.text not in REFUSED and r.length == parts * PARTED[r.service]
+        breaks("plain loop", whole_parts, cost=9.0 * parts * 153 + 1)
+        if parts > 2:
+            breaks("as many halves of two parts", lambda r: whole_parts(r) and r.text in LINEAR, cost=9.0 * parts * 153 + 1)
+        breaks("as many messages of 160 letters", lambda r: whole_parts(r) and (r.direction, r.service, r.text) == ("write", "parts", "letters"),
+               cost=PARTS_AGAINST_MESSAGES * 9.0 * 160 * parts + 1)
+    breaks("octets of stack", lambda r: is_ours(r) and r.service not in PAGED and r.service not in PARTED, stack=STACK_OCTETS)
+    breaks("octets of stack", is_ours, stack=max(PAGED_STACK_OCTETS, PARTED_STACK_OCTETS))
+    breaks("octets of stack", lambda r: is_ours(r) and r.service in PARTED, stack=PARTED_STACK_OCTETS)
     breaks("something else", lambda r: r.side == "plain" and r.service != "sms-ucs2", answer="differs", cost=9.0)
     slow = [r._replace(cost=2 * r.cost if is_ours(r) and r.text not in REFUSED else r.cost) for r in rows]
     assert any("plain loop" in line for line in broken_by_figures(slow, True)[0])
@@ -264,7 +325,7 @@ def main(words):
     if len(broken) > MOST_LINES:
         print(f"over the limit: {len(broken) - MOST_LINES} more")
     if timed:
-        print("not judged, since instructions cannot be counted here: instructions of a whole message, UCS2, several pages, refusals, stack")
+        print("not judged, since instructions cannot be counted here: instructions of a whole message, UCS2, several pages, parts, refusals, stack")
     print(f"{judged + 3} limits judged, {len(broken)} broken")
     return 1 if broken else 0
 

@@ -6,7 +6,7 @@
 #include <string.h>
 
 static const one_case *now;
-static const char *const one_page = "has no call for several pages";
+static const char *const one_page = "has no call for several pages, for keys or for parts";
 static uint8_t septets[512];
 static uint8_t octets[512];
 static size_t written;
@@ -97,7 +97,7 @@ static void osmo_answer(one_answer *got) {
   }
 }
 
-const side peer_libosmocore = { "libosmocore", osmo_load, osmo_prepare, osmo_run, NULL, osmo_answer, NULL };
+const side peer_libosmocore = { "libosmocore", osmo_load, osmo_prepare, osmo_run, NULL, osmo_answer, NULL, NULL };
 
 /* ---- gammu: text is two octets a unit, high octet first, closed by a zero unit. ---- */
 
@@ -161,7 +161,7 @@ static void gammu_answer(one_answer *got) {
   }
 }
 
-const side peer_gammu = { "gammu", gammu_load, gammu_prepare, gammu_run, NULL, gammu_answer, NULL };
+const side peer_gammu = { "gammu", gammu_load, gammu_prepare, gammu_run, NULL, gammu_answer, NULL, NULL };
 
 /* ---- wireshark: reads only, into UTF-8 of its own storage. ---- */
 
@@ -215,4 +215,4 @@ static void shark_answer(one_answer *got) {
   got->written = used;
 }
 
-const side peer_wireshark = { "wireshark", shark_load, shark_prepare, shark_run, NULL, shark_answer, NULL };
+const side peer_wireshark = { "wireshark", shark_load, shark_prepare, shark_run, NULL, shark_answer, NULL, NULL };

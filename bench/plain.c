@@ -5,6 +5,9 @@
 
 enum { CR = 0x0D, ESCAPE = 0x1B };
 enum { BLOCK = 88, HEADER = 6, PAGE_OCTETS = 82, PAGE_SEPTETS = 93, PAGE_UNITS = 41, MOST_PAGES = 15 };
+enum { ALONE_SEPTETS = 160, ALONE_UNITS = 70, ALONE_OCTETS = 140, MOST_PARTS = 255 };
+/* The header of a part, and what is behind it. */
+enum { PART_HEADER = 6, HEADER_SEPTETS = 7, PART_SEPTETS = 153, PART_UNITS = 67 };
 enum { LISTED = 0x100, EXTENSION = 0x200 };
 #define M(code) (LISTED | (code))
 #define E(code) (LISTED | EXTENSION | (code))
@@ -433,6 +436,26 @@ wikuay_read_answer plain_read(uint32_t service, uint8_t coding, size_t count, co
   return a;
 }
 
+/* ---- texts of any length ---- */
+
+/* Text to septets, where `used` says how many there are, or more than the limit; or not, where it says which unit is not in the alphabet. */
+static int lay_septets(const uint16_t *text, size_t text_len, size_t limit, uint8_t *septets, size_t *used) {
+  size_t n = 0;
+  for (size_t i = 0; i < text_len; i++) {
+    unsigned entry = find(text[i]);
+    if (entry == 0) {
+      *used = i;
+      return 0;
+    }
+    /* A unit takes one septet or two, so there is room for the first one that is too many. */
+    if (n > limit) continue;
+    if (entry & EXTENSION) septets[n++] = ESCAPE;
+    septets[n++] = entry & 0x7F;
+  }
+  *used = n;
+  return 1;
+}
+
 /* ---- broadcasts of several pages ---- */
 
 /* What is known of a message before its first block is made: its pages, or why there are none. Of 7-bit text the septets of all pages are
@@ -454,19 +477,10 @@ static void page_text(paged *to, wikuay_reading reading, const uint16_t *text, s
   to->coding = (uint8_t)coding;
   to->ucs2 = reading.alphabet == WIKUAY_UCS2;
   size_t room = to->ucs2 ? PAGE_UNITS : PAGE_SEPTETS, limit = MOST_PAGES * room, used = to->ucs2 ? text_len : 0;
-  if (!to->ucs2) {
-    for (size_t i = 0; i < text_len; i++) {
-      unsigned entry = find(text[i]);
-      if (entry == 0) {
-        to->refusal = 6;
-        to->position = i;
-        return;
-      }
-      /* A unit takes one septet or two, so there is room for the first one that is too many. */
-      if (used > limit) continue;
-      if (entry & EXTENSION) to->septets[used++] = ESCAPE;
-      to->septets[used++] = entry & 0x7F;
-    }
+  if (!to->ucs2 && !lay_septets(text, text_len, limit, to->septets, &used)) {
+    to->refusal = 6;
+    to->position = used;
+    return;
   }
   if (used > limit) {
     to->refusal = 5;
@@ -600,6 +614,299 @@ wikuay_join_answer plain_join_pages(const uint8_t *blocks, size_t blocks_len, ui
   if (used > out_len) return join_refused(7);
   memcpy(out, units, used * sizeof units[0]);
   wikuay_join_answer a = { 0, (uint32_t)total, 0, used, (uint16_t)(blocks[0] << 8 | blocks[1]), (uint16_t)(blocks[2] << 8 | blocks[3]), reading };
+  return a;
+}
+
+/* ---- short messages of several parts ---- */
+
+/* What is known of a message before its first part is made: its parts, or why there are none. Of 7-bit text the septets of all parts are
+   there too. */
+typedef struct {
+  uint32_t refusal;
+  uint8_t coding;
+  uint8_t ucs2;
+  size_t position;
+  size_t parts;
+  size_t length; /* septets, or units of UCS2 */
+  uint8_t septets[MOST_PARTS * PART_SEPTETS + 2];
+} parted;
+
+static void part_text(parted *to, wikuay_reading reading, const uint16_t *text, size_t text_len) {
+  int coding = text_coding(0, reading);
+  to->position = 0;
+  to->refusal = coding < 0 ? 8 : no_text(reading);
+  if (to->refusal != 0) return;
+  to->coding = (uint8_t)coding;
+  to->ucs2 = reading.alphabet == WIKUAY_UCS2;
+  size_t alone = to->ucs2 ? ALONE_UNITS : ALONE_SEPTETS, room = to->ucs2 ? PART_UNITS : PART_SEPTETS;
+  size_t limit = MOST_PARTS * room, used = to->ucs2 ? text_len : 0;
+  if (!to->ucs2 && !lay_septets(text, text_len, limit, to->septets, &used)) {
+    to->refusal = 6;
+    to->position = used;
+    return;
+  }
+  if (used > limit) {
+    to->refusal = 5;
+    return;
+  }
+  to->length = used;
+  to->parts = used <= alone ? 1 : (used + room - 1) / room;
+}
+
+/* The length count of part k, counted from 0, and how many octets it has. */
+static size_t part_count(const parted *from, size_t k) {
+  size_t room = from->ucs2 ? PART_UNITS : PART_SEPTETS;
+  size_t held = from->parts == 1 ? from->length : k + 1 < from->parts ? room : from->length - room * k;
+  if (from->ucs2) return (from->parts == 1 ? 0 : PART_HEADER) + 2 * held;
+  return (from->parts == 1 ? 0 : HEADER_SEPTETS) + held;
+}
+
+static size_t part_octets(int ucs2, size_t count) { return ucs2 ? count : (7 * count + 7) / 8; }
+
+/* Makes part k, counted from 0, of so many septets or octets. */
+static void put_part(uint8_t *out, uint8_t reference, const parted *from, const uint16_t *text, size_t k, size_t count) {
+  int headed = from->parts > 1;
+  if (headed) {
+    *out++ = PART_HEADER - 1;
+    *out++ = 0;
+    *out++ = 3;
+    *out++ = reference;
+    *out++ = (uint8_t)from->parts;
+    *out++ = (uint8_t)(k + 1);
+  }
+  if (from->ucs2) {
+    plain_swap_out(text + PART_UNITS * k, (count - (headed ? PART_HEADER : 0)) / 2, out);
+    return;
+  }
+  /* The header ends one bit in front of a septet boundary. */
+  const uint8_t *septets = from->septets + PART_SEPTETS * k;
+  size_t septets_len = count - (headed ? HEADER_SEPTETS : 0);
+  uint32_t bits = 0;
+  unsigned held = headed ? 1 : 0;
+  for (size_t i = 0; i < septets_len; i++) {
+    bits |= (uint32_t)septets[i] << held;
+    held += 7;
+    if (held >= 8) {
+      *out++ = (uint8_t)bits;
+      bits >>= 8;
+      held -= 8;
+    }
+  }
+  if (held > 0) *out = (uint8_t)bits;
+}
+
+static wikuay_parts_answer parts_refused(uint32_t refusal, size_t position) {
+  wikuay_parts_answer a = { refusal, 0, position, 0, 0, 0, 0 };
+  return a;
+}
+
+wikuay_parts_answer plain_write_parts(wikuay_reading reading, uint8_t reference, const uint16_t *text, size_t text_len, uint8_t *out,
+                                      size_t out_len, uint8_t *sizes, size_t sizes_len) {
+  parted from;
+  part_text(&from, reading, text, text_len);
+  if (from.refusal != 0) return parts_refused(from.refusal, from.position);
+  /* All parts but the last are full. */
+  size_t octets = ALONE_OCTETS * (from.parts - 1) + part_octets(from.ucs2, part_count(&from, from.parts - 1));
+  if (out_len < octets || sizes_len < 2 * from.parts) return parts_refused(7, 0);
+  for (size_t k = 0; k < from.parts; k++) {
+    size_t count = part_count(&from, k);
+    put_part(out + ALONE_OCTETS * k, reference, &from, text, k, count);
+    sizes[2 * k] = (uint8_t)count;
+    sizes[2 * k + 1] = (uint8_t)part_octets(from.ucs2, count);
+  }
+  wikuay_parts_answer a = { 0, (uint32_t)from.parts, 0, octets, 0, from.coding, from.parts > 1 };
+  return a;
+}
+
+wikuay_parts_answer plain_write_part(wikuay_reading reading, uint8_t reference, const uint16_t *text, size_t text_len, size_t number,
+                                     uint8_t *out, size_t out_len) {
+  parted from;
+  part_text(&from, reading, text, text_len);
+  if (from.refusal != 0) return parts_refused(from.refusal, from.position);
+  if (number == 0 || number > from.parts) return parts_refused(10, 0);
+  size_t count = part_count(&from, number - 1), octets = part_octets(from.ucs2, count);
+  if (out_len < octets) return parts_refused(7, 0);
+  put_part(out, reference, &from, text, number - 1, count);
+  wikuay_parts_answer a = { 0, (uint32_t)from.parts, 0, octets, (uint32_t)count, from.coding, from.parts > 1 };
+  return a;
+}
+
+/* Whether a part has this length count and so many octets. Of UCS2 they may be odd: what is behind the header is judged apart. */
+static int part_fits(int ucs2, size_t count, size_t octets_len) {
+  return count <= (ucs2 ? ALONE_OCTETS : ALONE_SEPTETS) && octets_len == part_octets(ucs2, count);
+}
+
+/* The header of a part: its octets, the length octet too, or 0 where it is wrong. `numbers` is where the last element has its three, or
+   NULL. */
+static size_t open_header(int ucs2, size_t count, const uint8_t *octets, size_t octets_len, const uint8_t **numbers) {
+  *numbers = NULL;
+  if (octets_len == 0) return 0;
+  size_t header = 1 + (size_t)octets[0], at = 1;
+  if (header > octets_len || (!ucs2 && (8 * header + 6) / 7 > count)) return 0;
+  while (at < header) {
+    if (header - at < 2 || header - at - 2 < octets[at + 1]) return 0;
+    if (octets[at] == 0) {
+      if (octets[at + 1] != 3) return 0;
+      *numbers = octets + at + 2;
+    }
+    at += 2 + (size_t)octets[at + 1];
+  }
+  return header;
+}
+
+/* Unpacks the septets behind a header, of a part that has so many with it. Answers how many they are. */
+static size_t unpack_part(const uint8_t *octets, size_t header, size_t count, uint8_t *septets) {
+  size_t before = (8 * header + 6) / 7, bit = 7 * before;
+  const uint8_t *at = octets + bit / 8;
+  uint32_t bits = 0;
+  unsigned held = 0;
+  if (bit % 8 != 0) {
+    bits = (uint32_t)*at++ >> bit % 8;
+    held = 8 - bit % 8;
+  }
+  for (size_t i = before; i < count; i++) {
+    if (held < 7) {
+      bits |= (uint32_t)*at++ << held;
+      held += 8;
+    }
+    *septets++ = bits & 0x7F;
+    bits >>= 7;
+    held -= 7;
+  }
+  return count - before;
+}
+
+/* Septets to text, into out. Answers how many units they are, or SIZE_MAX where there is no room, and then nothing is stored. */
+static size_t septets_out(const uint8_t *septets, size_t septets_len, uint16_t *out, size_t out_len) {
+  size_t used = 0;
+  /* No text has more units than septets, so they are counted only where that many have no room. */
+  if (out_len < septets_len) {
+    for (size_t i = 0; i < septets_len; i++, used++)
+      if (septets[i] == ESCAPE && i + 1 < septets_len) i++;
+    if (out_len < used) return SIZE_MAX;
+    used = 0;
+  }
+  for (size_t i = 0; i < septets_len; i++) {
+    uint16_t unit = main_unit[septets[i]];
+    if (septets[i] == ESCAPE && i + 1 < septets_len) {
+      i++;
+      unit = extension_unit[septets[i]];
+      if (unit == 0) unit = main_unit[septets[i]];
+    }
+    out[used++] = unit;
+  }
+  return used;
+}
+
+static wikuay_part_answer part_refused(uint32_t refusal) {
+  wikuay_part_answer a = { refusal, 0, 0, 0, 0, 0, 0, WIKUAY_PLAIN };
+  return a;
+}
+
+wikuay_part_answer plain_read_part(uint8_t coding, size_t count, uint8_t mark, const uint8_t *octets, size_t octets_len, uint16_t *out,
+                                   size_t out_len) {
+  if (mark > 1) return part_refused(8);
+  if (mark == 0) {
+    wikuay_read_answer r = plain_read(0, coding, count, octets, octets_len, out, out_len);
+    wikuay_part_answer a = { r.refusal, 0, 0, 0, 0, r.position, r.written, r.reading };
+    return a;
+  }
+  wikuay_reading reading = plain_read_coding(0, coding);
+  uint32_t refusal = no_text(reading);
+  if (refusal != 0) return part_refused(refusal);
+  int ucs2 = reading.alphabet == WIKUAY_UCS2;
+  if (!part_fits(ucs2, count, octets_len)) return part_refused(4);
+  const uint8_t *numbers;
+  size_t header = open_header(ucs2, count, octets, octets_len, &numbers), used;
+  if (header == 0) return part_refused(12);
+  if (ucs2) {
+    if ((octets_len - header) % 2 != 0) return part_refused(4);
+    used = (octets_len - header) / 2;
+    if (used > out_len) return part_refused(7);
+    plain_swap_in(octets + header, used, out);
+  } else {
+    uint8_t septets[ALONE_SEPTETS];
+    used = septets_out(septets, unpack_part(octets, header, count, septets), out, out_len);
+    if (used == SIZE_MAX) return part_refused(7);
+  }
+  wikuay_part_answer a = { 0, numbers != NULL, 0, 0, 0, 0, used, reading };
+  if (numbers != NULL) {
+    a.reference = numbers[0];
+    a.total = numbers[1];
+    a.number = numbers[2];
+  }
+  return a;
+}
+
+static wikuay_parts_join_answer parts_join_refused(uint32_t refusal) {
+  wikuay_parts_join_answer a = { refusal, 0, 0, 0, 0, WIKUAY_PLAIN };
+  return a;
+}
+
+wikuay_parts_join_answer plain_join_parts(uint8_t coding, const uint8_t *counts, size_t counts_len, const uint8_t *octets,
+                                          size_t octets_len, uint16_t *out, size_t out_len) {
+  wikuay_reading reading = plain_read_coding(0, coding);
+  uint32_t refusal = no_text(reading);
+  if (refusal != 0) return parts_join_refused(refusal);
+  int ucs2 = reading.alphabet == WIKUAY_UCS2;
+  size_t left = octets_len;
+  for (size_t i = 0; i < counts_len; i++) {
+    size_t length = part_octets(ucs2, counts[i]);
+    if (left < length || !part_fits(ucs2, counts[i], length)) return parts_join_refused(4);
+    left -= length;
+  }
+  if (left != 0) return parts_join_refused(4);
+
+  /* Each part from 1 to the total is there once, and all have the reference and the total of the first. A wrong header anywhere goes
+     before odd octets anywhere, and those before parts that are not those of one message. */
+  struct {
+    const uint8_t *octets;
+    uint8_t header, count;
+  } part_of[MOST_PARTS + 1];
+  uint8_t seen[MOST_PARTS + 1] = { 0 };
+  const uint8_t *first = NULL, *numbers;
+  size_t total = 0;
+  int odd = 0, wrong = counts_len == 0;
+  for (size_t i = 0; i < counts_len; i++) {
+    size_t length = part_octets(ucs2, counts[i]), header = open_header(ucs2, counts[i], octets, length, &numbers);
+    if (header == 0) return parts_join_refused(12);
+    if (ucs2 && (length - header) % 2 != 0) odd = 1;
+    if (i == 0 && numbers != NULL) {
+      first = numbers;
+      total = numbers[1];
+    }
+    if (first == NULL || numbers == NULL || numbers[0] != first[0] || numbers[1] != total || numbers[2] == 0 || numbers[2] > total ||
+        seen[numbers[2]]) {
+      wrong = 1;
+    } else {
+      seen[numbers[2]] = 1;
+      part_of[numbers[2]].octets = octets;
+      part_of[numbers[2]].header = (uint8_t)header;
+      part_of[numbers[2]].count = counts[i];
+    }
+    octets += length;
+  }
+  if (odd) return parts_join_refused(4);
+  if (wrong || counts_len != total) return parts_join_refused(10);
+
+  size_t used = 0;
+  if (ucs2) {
+    for (size_t k = 1; k <= total; k++) used += (size_t)(part_of[k].count - part_of[k].header) / 2;
+    if (used > out_len) return parts_join_refused(7);
+    for (size_t k = 1; k <= total; k++) {
+      size_t units = (size_t)(part_of[k].count - part_of[k].header) / 2;
+      plain_swap_in(part_of[k].octets + part_of[k].header, units, out);
+      out += units;
+    }
+  } else {
+    uint8_t septets[MOST_PARTS * PART_SEPTETS];
+    size_t septets_len = 0;
+    for (size_t k = 1; k <= total; k++)
+      septets_len += unpack_part(part_of[k].octets, part_of[k].header, part_of[k].count, septets + septets_len);
+    used = septets_out(septets, septets_len, out, out_len);
+    if (used == SIZE_MAX) return parts_join_refused(7);
+  }
+  wikuay_parts_join_answer a = { 0, (uint32_t)total, 0, used, first[0], reading };
   return a;
 }
 

@@ -16,6 +16,16 @@ wikuay_page_answer plain_build_page(uint16_t sequence, uint16_t identifier, wiku
                                     size_t text_len, size_t number);
 wikuay_join_answer plain_join_pages(const uint8_t *blocks, size_t blocks_len, uint16_t *out, size_t out_len);
 
+/* Short messages of several parts. */
+wikuay_parts_answer plain_write_parts(wikuay_reading reading, uint8_t reference, const uint16_t *text, size_t text_len, uint8_t *out,
+                                      size_t out_len, uint8_t *sizes, size_t sizes_len);
+wikuay_parts_answer plain_write_part(wikuay_reading reading, uint8_t reference, const uint16_t *text, size_t text_len, size_t number,
+                                     uint8_t *out, size_t out_len);
+wikuay_part_answer plain_read_part(uint8_t coding, size_t count, uint8_t mark, const uint8_t *octets, size_t octets_len, uint16_t *out,
+                                   size_t out_len);
+wikuay_parts_join_answer plain_join_parts(uint8_t coding, const uint8_t *counts, size_t counts_len, const uint8_t *octets,
+                                          size_t octets_len, uint16_t *out, size_t out_len);
+
 /* The keys of a meter, by value. */
 wikuay_meter_answer plain_unit_added(wikuay_meter meter, uint16_t unit);
 wikuay_meter_answer plain_unit_taken_back(wikuay_meter meter, uint16_t unit);

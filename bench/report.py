@@ -20,6 +20,10 @@ SERVICES = {
     "lettered": "page with letters",
     "lettered-ucs2": "page with letters, UCS2",
     "meter": "keys of a meter",
+    "parts": "all parts",
+    "parts-ucs2": "all parts, UCS2",
+    "part": "the last part",
+    "part-ucs2": "the last part, UCS2",
 }
 BEGIN, END = "<!-- figures: written by bench/run -->", "<!-- end of figures -->"
 

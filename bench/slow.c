@@ -5,7 +5,7 @@
 #include <stdlib.h>
 #include <string.h>
 
-static const uint8_t table[40000] = { 1 };
+static const uint8_t table[50000] = { 1 };
 static void *volatile kept;
 
 static void wait(unsigned turns) {
@@ -52,6 +52,40 @@ wikuay_join_answer wikuay_join_pages(const uint8_t *blocks, size_t blocks_len, u
   return answer;
 }
 
+/* The same of parts. From 12 on it waits no longer: what is more says nothing new, and is counted instruction by instruction. */
+static unsigned parts_wait(wikuay_parts_answer answer) {
+  unsigned parts = answer.parts < 12 ? answer.parts : 12;
+  return answer.refusal != 0 ? 1500 : 60 * parts * parts;
+}
+
+wikuay_parts_answer wikuay_write_parts(wikuay_reading reading, uint8_t reference, const uint16_t *text, size_t text_len, uint8_t *out,
+                                       size_t out_len, uint8_t *sizes, size_t sizes_len) {
+  wikuay_parts_answer answer = plain_write_parts(reading, reference, text, text_len, out, out_len, sizes, sizes_len);
+  wait(parts_wait(answer));
+  return answer;
+}
+
+wikuay_parts_answer wikuay_write_part(wikuay_reading reading, uint8_t reference, const uint16_t *text, size_t text_len, size_t number,
+                                      uint8_t *out, size_t out_len) {
+  wikuay_parts_answer answer = plain_write_part(reading, reference, text, text_len, number, out, out_len);
+  wait(parts_wait(answer));
+  return answer;
+}
+
+wikuay_part_answer wikuay_read_part(uint8_t coding, size_t count, uint8_t mark, const uint8_t *octets, size_t octets_len, uint16_t *out,
+                                    size_t out_len) {
+  wikuay_part_answer answer = plain_read_part(coding, count, mark, octets, octets_len, out, out_len);
+  wait(400);
+  return answer;
+}
+
+wikuay_parts_join_answer wikuay_join_parts(uint8_t coding, const uint8_t *counts, size_t counts_len, const uint8_t *octets,
+                                           size_t octets_len, uint16_t *out, size_t out_len) {
+  wikuay_parts_join_answer answer = plain_join_parts(coding, counts, counts_len, octets, octets_len, out, out_len);
+  wait(60 * (unsigned)(counts_len < 12 ? counts_len * counts_len : 144));
+  return answer;
+}
+
 /* A key waits longer the more is typed: it does not take the same time. */
 wikuay_meter_answer wikuay_unit_added(wikuay_meter meter, uint16_t unit) {
   wikuay_meter_answer answer = plain_unit_added(meter, unit);
@@ -80,6 +114,12 @@ static wikuay_read_answer nothing_read(void) {
 /* The other calls answer nothing: they are there to be linked. */
 wikuay_pages_answer wikuay_count_pages(wikuay_reading reading, const uint16_t *text, size_t text_len) {
   wikuay_pages_answer answer;
+  (void)reading, (void)text, (void)text_len;
+  memset(&answer, 0, sizeof answer);
+  return answer;
+}
+wikuay_parts_answer wikuay_count_parts(wikuay_reading reading, const uint16_t *text, size_t text_len) {
+  wikuay_parts_answer answer;
   (void)reading, (void)text, (void)text_len;
   memset(&answer, 0, sizeof answer);
   return answer;
