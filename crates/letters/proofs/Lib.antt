@@ -8,6 +8,7 @@ pub mod Distinct
 pub mod Pairs
 pub mod Theorems
 pub mod Encodings
+pub mod Counting
 pub mod OwnTexts
 pub mod Gathering
 pub mod Examples

@@ -62,17 +62,25 @@ fn judged(units: usize, n: usize, len: usize) -> Filled
     Filled::Done(n)
 }
 
-// The number of septets that the text takes, or its first unlisted unit. Units at its front that are their own codes are copied into an array, which is faster
-// than to count them one by one.
+// The number of septets that the text takes, or its first unlisted unit. By blocks of 64: in each the units at its front that are their own codes
+// are copied, which is faster than to count them one by one.
 pub fn septets_in(text: &[u16]) -> Measured
     ensures answer { λ r. ⌜ r ≡ measured (now (text .entry)) ⌝ }
 {
-    let mut scrap = [0u8; 184];
-    let whole = encode(text, &mut scrap);
-    if whole.units < text.len() {
-        return Measured::Stopped(whole.units);
+    let len = text.len();
+    let mut scrap = [0u8; 64];
+    let mut n: usize = 0;
+    let mut i: usize = 0;
+    while i < len {
+        let few = own::fewer(len - i, 64);
+        let told = encode(&text[i..i + few], &mut scrap);
+        if told.units < few {
+            return Measured::Stopped(i + told.units);
+        }
+        n += told.septets;
+        i += few;
     }
-    Measured::Septets(whole.septets)
+    Measured::Septets(n)
 }
 
 // Text to septets: how many it stored at the front of the lent buffer.
