@@ -50,6 +50,7 @@ add-t17 c =
     let few = c .before .before .before .before .before .before .before in
     let w : few .fewer .result ≤ length (few .before .before .before .before .args .text .now) - few .before .before .loop .i = omega (arith, few .fewer .ensures) in
     let u : c .before .before .before .before .encode .result .units < few .fewer .result = c .before .if1 .taken in
+    let most = counted-most (few .before .before .loop .inv .0) in
     search needs
 
 returns : tie.Need-returns Inv-loop μ-loop
