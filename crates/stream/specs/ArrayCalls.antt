@@ -1,10 +1,10 @@
 -- Packing from an array of septets and from a page, and unpacking with what closes the text left in: the whole writer and the whole reader keep
 -- a text's septets in an array of their own, longer than any text.
--- Own rule: of an array's septet the low seven bits are packed. Cited by packing::pack_text, packing::pack_page, packing::unpack_all,
--- closing::adds_cr and closing::text_length. Assumes nothing.
+-- Own rule: of an array's septet the low seven bits are packed. Cited by packing::pack_text, packing::pack_short, packing::pack_page,
+-- packing::unpack_all, closing::adds_cr and closing::text_length. Assumes nothing.
 --   lowBits s                  == the low seven bits of each of s
 --   arrayRules service s n room == what refuses to pack the first n septets of the array s into a buffer of that room
---   arrayAnswers, arrayLeaves  == what pack_text answers, and what it leaves in the buffer
+--   arrayAnswers, arrayLeaves  == what pack_text answers, and what it leaves in the buffer; pack_short of a short message and all septets
 --   pageRules p room           == what refuses to pack the page p into a buffer of that room
 --   pageAnswers, pageLeaves    == what pack_page answers, and what it leaves in the buffer
 --   heldCount service octets count == how many septets so many octets hold
