@@ -10,7 +10,7 @@ use parted::Plan;
 use parted::Planned;
 use words::Refusal;
 
-// How a text is cut. One pass judges it and counts: of a 7-bit text first whether all units are their own codes.
+// How a text is cut.
 // Refuses a unit that is not in the alphabet (6, the first), more than 255 parts (5).
 pub fn plan(ucs2: bool, units: &[u16]) -> Planned
     ensures answer { λ r. ⌜ r ≡ plannedAs ucs2 (now (units .entry)) ⌝ }
@@ -18,11 +18,10 @@ pub fn plan(ucs2: bool, units: &[u16]) -> Planned
     if ucs2 {
         return planned(true, true, units.len());
     }
-    if to_septets::own_text(units) {
-        return planned(false, true, units.len());
-    }
-    match to_septets::septets_in(units) {
-        Measured::Septets(n) => planned(false, false, n),
+    let seen = to_septets::survey(units);
+    let measured = seen.measured;
+    match measured {
+        Measured::Septets(n) => planned(false, seen.own, n),
         Measured::Stopped(unit) => Planned::Refused(Refusal::Unlisted { unit: unit }),
     }
 }

@@ -42,7 +42,9 @@ fn text_pages(ucs2: bool, units: &[u16]) -> Counted
     if ucs2 {
         return paged(41, units.len());
     }
-    match to_septets::septets_in(units) {
+    let seen = to_septets::survey(units);
+    let measured = seen.measured;
+    match measured {
         Measured::Septets(n) => paged(93, n),
         Measured::Stopped(unit) => Counted::Refused(Refusal::Unlisted { unit: unit }),
     }

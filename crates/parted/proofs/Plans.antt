@@ -8,7 +8,7 @@
 --   length-most, length-here, length-full, length-rest   how much a part holds
 --   part-is, part-long   part k is what stands from k times the room on
 --   count-is, octets-is, octets-full  its count and its octets
---   holding-over, holding-sum, holding-room, sized-over, sized-done, plan-units, plan-own, plan-counted, plan-stopped   how the code counts
+--   holding-over, holding-sum, holding-room, sized-over, sized-done, plan-units, plan-counted, plan-stopped   how the code counts
 use mathlib.Core.Path.{_≡_, refl, sym, ap, ap₂, _∙_, subst}
 use mathlib.Core.Bool.{Bool, true, false, cond}
 use mathlib.Core.List.{List, [], _∷_, _++_}
@@ -32,7 +32,6 @@ use Rattle.letters.specs.Sized.{contentOf, notCodable}
 use Rattle.letters.specs.OwnCodes.{ownText}
 use Rattle.letters.proofs.Theorems.{Codable}
 use Rattle.letters.proofs.Texts.{codable-told}
-use Rattle.letters.proofs.OwnTexts.{own-text-codable, own-text-septets}
 use Rattle.stream.specs.Stream.{octetsFor}
 use Rattle.stream.specs.Ucs2.{unitOctets}
 use Rattle.stream.proofs.UnitOctets.{unit-octets-length}
@@ -243,16 +242,16 @@ plan-listed : (t : List ℕ) → Codable t → sizedPlan false (ownText t) (leng
 unfolding sizedPlan plannedAs sizeRules verdict
 plan-listed t c = simp (le-ltb (firstUnlisted t) (length t) (omega (arith, c)))
 
-pub plan-own : (t : List ℕ) → ownText t ≡ true → sizedPlan false true (length t) ≡ plannedAs false t
-plan-own t own = sym (ap₂ (sizedPlan false) own (ap length (own-text-septets t own))) ∙ plan-listed t (own-text-codable t own)
-
-pub plan-counted : (t : List ℕ) (n : ℕ) → ownText t ≡ false → Septets n ≡ measured t → sizedPlan false false n ≡ plannedAs false t
+pub plan-counted : (t : List ℕ) (n : ℕ) → Septets n ≡ measured t → sizedPlan false (ownText t) n ≡ plannedAs false t
 unfolding measured
-plan-counted t n other e = go (ltb (firstUnlisted t) (length t)) refl e
+plan-counted t n e = go (ltb (firstUnlisted t) (length t)) refl e
   where
-    go : (b : Bool) → ltb (firstUnlisted t) (length t) ≡ b → Septets n ≡ cond b (Stopped (firstUnlisted t)) (Septets (length (septetsOf t))) → sizedPlan false false n ≡ plannedAs false t
+    go : (b : Bool) → ltb (firstUnlisted t) (length t) ≡ b → Septets n ≡ cond b (Stopped (firstUnlisted t)) (Septets (length (septetsOf t)))
+        → sizedPlan false (ownText t) n ≡ plannedAs false t
     go true f d = let z : _≡_ {A = ℕ} 0 1 = cc in absurd (omega arith)
-    go false f d = let same : n ≡ length (septetsOf t) = cc in ap₂ (sizedPlan false) (sym other) same ∙ plan-listed t (codable-told t (ltb-false (firstUnlisted t) (length t) f))
+    go false f d =
+        let same : n ≡ length (septetsOf t) = cc in
+        ap (sizedPlan false (ownText t)) same ∙ plan-listed t (codable-told t (ltb-false (firstUnlisted t) (length t) f))
 
 pub plan-stopped : (t : List ℕ) (unit : ℕ) → Stopped unit ≡ measured t → planned.Refused (Unlisted unit) ≡ plannedAs false t
 unfolding measured plannedAs sizeRules verdict

@@ -3,6 +3,7 @@ use mathlib.Core.Path.{sym, ap, _∙_}
 use mathlib.Core.Bool.{Bool}
 use denote.Ref.{now}
 use Rattle.letters.specs.declared.Measured.the-variants.{Septets, Stopped}
+use Rattle.letters.specs.declared.Surveyed.{Surveyed}
 use Rattle.pages.specs.Inner.{sizedAs}
 use Rattle.pages.proofs.Steps.{sized-units, measured-sized}
 use borrow.Author.Needs.{needs}
@@ -18,33 +19,33 @@ returns c =
     let a = at .before .before .args in
     c .paged .ensures ∙ sym (sized-units (now (a .units))) ∙ ap (λ (b : Bool). sizedAs b (now (a .units))) (sym (at .if1 .taken))
 
-septets-in-requires : tie.Need-septets-in-requires
-septets-in-requires c κs = search needs
+survey-requires : tie.Need-survey-requires
+survey-requires c κs = search needs
 
-enum-known-n : tie.Need-enum-known-n
-enum-known-n c = search needs
+enum-known-measured : tie.Need-enum-known-measured
+enum-known-measured c = search needs
 
 paged-requires-2 : tie.Need-paged-requires-2
 paged-requires-2 c κs = search needs
 
-enum-known-unit : tie.Need-enum-known-unit
-enum-known-unit c = search needs
+enum-known-measured-2 : tie.Need-enum-known-measured-2
+enum-known-measured-2 c = search needs
 
 returns-2 : tie.Need-returns-2
 returns-2 c =
-    let known = c .before .before in
-    let asked = known .before .before in
+    let told = c .before .before in
+    let asked = told .before .before in
     let a = asked .before .before .before .args in
     c .paged2 .ensures
-    ∙ measured-sized (now (a .units)) (Septets (known .n .given .0 .0)) (sym (known .n .given .1) ∙ asked .septets-in .ensures)
+    ∙ measured-sized (now (a .units)) (Septets (told .measured .given .0 .0)) (sym (told .measured .given .1) ∙ ap (λ (s : Surveyed). s .measured) (asked .survey .ensures))
     ∙ ap (λ (b : Bool). sizedAs b (now (a .units))) (sym (asked .before .if1 .left))
 
 returns-3 : tie.Need-returns-3
 returns-3 c =
-    let known = c .before in
-    let asked = known .before .before in
+    let told = c .before in
+    let asked = told .before .before in
     let a = asked .before .before .before .args in
-    measured-sized (now (a .units)) (Stopped (known .unit .given .0 .0)) (sym (known .unit .given .1) ∙ asked .septets-in .ensures)
+    measured-sized (now (a .units)) (Stopped (told .measured2 .given .0 .0)) (sym (told .measured2 .given .1) ∙ ap (λ (s : Surveyed). s .measured) (asked .survey .ensures))
     ∙ ap (λ (b : Bool). sizedAs b (now (a .units))) (sym (asked .before .if1 .left))
 
 pub text-pages-spec : {M : Type 1} → statement M
@@ -53,9 +54,9 @@ text-pages-spec =
     (tie.spec
     paged-requires
     returns
-    septets-in-requires
-    enum-known-n
+    survey-requires
+    enum-known-measured
     paged-requires-2
-    enum-known-unit
+    enum-known-measured-2
     returns-2
     returns-3)
