@@ -37,7 +37,7 @@ PARTS_AGAINST_MESSAGES = 1.2
 # How often the plain loop's cost is allowed to the calls on parts, where once is not kept. A text that is not all letters is counted in a pass of its own before
 # it is written, unit by unit where it has extension letters; to write its last part alone, those before it are encoded too. Of UCS2 the plain loop is vector code from end to end.
 PART_TIMES = {("write", "parts", "extension"): 1.65, ("write", "part", "extension"): 2.8,
-              ("write", "parts-ucs2", "han"): 1.3, ("write", "part-ucs2", "han"): 1.4,
+              ("write", "parts-ucs2", "han"): 1.25, ("write", "part-ucs2", "han"): 1.3,
               ("read", "parts-ucs2", "han"): 1.7, ("read", "part-ucs2", "han"): 1.9}
 # How often the plain loop's cost is allowed, where once is not kept: of UCS2 the plain loop is vector code from end to end, and a page built
 # of extension letters pays for the septets of all pages.
