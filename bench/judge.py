@@ -39,6 +39,8 @@ PARTS_AGAINST_MESSAGES = 1.2
 PART_TIMES = {("write", "parts", "extension"): 1.65, ("write", "part", "extension"): 2.8,
               ("write", "parts-ucs2", "han"): 1.25, ("write", "part-ucs2", "han"): 1.3,
               ("read", "parts-ucs2", "han"): 1.7, ("read", "part-ucs2", "han"): 1.9}
+# The calls that count pages or parts only test a text of letters: instructions a letter, at most.
+COUNTING = {"wikuay_count_pages": 2, "wikuay_count_parts": 2}
 # How often the plain loop's cost is allowed, where once is not kept: of UCS2 the plain loop is vector code from end to end, and a page built
 # of extension letters pays for the septets of all pages.
 TIMES = {("write", "pages-ucs2"): 1.05, ("write", "built-ucs2"): 1.45, ("read", "pages-ucs2"): 3, ("write", "built"): 1.2,
@@ -151,6 +153,8 @@ def broken_by_figures(rows, timed):
             first = cost.get((r.direction, r.service, r.text, each, "wikuay"))
             if r.length > each:
                 hold(f"{name}: against as many first keys", r.cost, first and r.length // each * first)
+        if not timed and r.service in COUNTING:
+            hold(f"{name}: instructions a letter", r.cost / r.length, COUNTING[r.service])
         if not timed and r.service == "sms-ucs2" and r.length == FULL_UCS2:
             swap = cost.get(key + ("swap",))
             hold(f"{name}: against twice the loop that swaps", r.cost, swap and 2 * swap)
@@ -251,6 +255,8 @@ def self_test():
                     each = 9.0 * parts * room
                     rows.append(Row(direction, service, text, parts * room, "wikuay", "same", each, 2000))
                     rows.append(Row(direction, service, text, parts * room, "plain", "same", each / allowed(direction, service, text), None))
+    for call, each in COUNTING.items():
+        rows.append(Row("other", call, "letters", 1000, "wikuay", "same", each * 1000, 400))
     clean, judged = broken_by_figures(rows, False)
     assert clean == [] and judged > 40, (clean, judged)
 
@@ -292,6 +298,7 @@ def self_test():
             breaks("as many halves of two parts", lambda r: whole_parts(r) and r.text in LINEAR, cost=9.0 * parts * 153 + 1)
         breaks("as many messages of 160 letters", lambda r: whole_parts(r) and (r.direction, r.service, r.text) == ("write", "parts", "letters"),
                cost=PARTS_AGAINST_MESSAGES * 9.0 * 160 * parts + 1)
+    breaks("instructions a letter", lambda r: r.service in COUNTING, cost=max(COUNTING.values()) * 1000 + 1)
     breaks("octets of stack", lambda r: is_ours(r) and r.service not in PAGED and r.service not in PARTED, stack=STACK_OCTETS)
     breaks("octets of stack", is_ours, stack=max(PAGED_STACK_OCTETS, PARTED_STACK_OCTETS))
     breaks("octets of stack", lambda r: is_ours(r) and r.service in PARTED, stack=PARTED_STACK_OCTETS)
