@@ -1,9 +1,9 @@
-// The tables of the alphabet from unit to code, as the code reads them.
-// The compiler makes a table in memory of a match, where a constant array is built on the stack wherever it is named. A match is inlined where
-// one place alone calls it.
+// Where the alphabet lists a unit. The tables from code to unit are all there is: the unit's own place is looked at, then the codes at which the
+// main table can list it, then those of the extension.
 ghost use mathlib.Core.Path.{_≡_};
-ghost use Prim.Native.Nat.{_≤_, _<_};
+ghost use Rattle.letters.specs.Tables.{mainTable, extension};
 ghost use Rattle.letters.specs.Writing.{listedAs, entryOf};
+ghost use Rattle.codes.specs.Inner.{atOwnPlace, unitBehind, codesIn, looked, Suffices};
 use letters::Listed;
 
 // Where the tables list the unit.
@@ -20,179 +20,105 @@ pub fn find(unit: u16) -> Listed
     Listed::Unlisted
 }
 
-// The unit's entry: the code, 0x80 and the code after an escape, or 0xff where it is unlisted. By a match below 0x100, by another among the
-// Greek capitals, by a test for the euro sign.
+// The unit's entry: the code, 0x80 and the code after an escape, or 0xff where it is unlisted. Most units are their own codes, and are not searched for.
 pub fn entry_of(unit: u16) -> u8
     ensures answer { λ r. ⌜ r ≡ entryOf unit ⌝ }
 {
-    let i = unit as usize;
-    if i < 0x100 {
-        return low_entry(unit);
+    if is_own(unit) {
+        return unit as u8;
     }
-    if i < 0x393 {
+    let code = look(unit, main_codes(unit), false);
+    if code < 0x80 {
+        return code;
+    }
+    let escaped = look(unit, extension_codes(unit), true);
+    if 0x80 <= escaped {
         return 0xff;
     }
-    if i < 0x3aa {
-        return greek_entry(unit);
-    }
-    if i == 0x20ac {
-        return 0xe5;
-    }
-    0xff
+    0x80 + escaped
 }
 
-// The entry of a unit below 0x100. The compiler makes a constant table of the match, where an array would be built each time.
-fn low_entry(unit: u16) -> u8
-    requires { ⌜ unit < 0x100 ⌝ }
-    ensures answer { λ r. ⌜ r ≡ entryOf unit ⌝ }
+// Whether the unit stands at its own place of the main table. The escape's place has a space, which stands at another.
+fn is_own(unit: u16) -> bool
+    ensures { λ r. ⌜ r ≡ atOwnPlace unit ⌝ }
 {
-    match unit {
-        0x0a => 0x0a,
-        0x0c => 0x8a,
-        0x0d => 0x0d,
-        0x20 => 0x20,
-        0x21 => 0x21,
-        0x22 => 0x22,
-        0x23 => 0x23,
-        0x24 => 0x02,
-        0x25 => 0x25,
-        0x26 => 0x26,
-        0x27 => 0x27,
-        0x28 => 0x28,
-        0x29 => 0x29,
-        0x2a => 0x2a,
-        0x2b => 0x2b,
-        0x2c => 0x2c,
-        0x2d => 0x2d,
-        0x2e => 0x2e,
-        0x2f => 0x2f,
-        0x30 => 0x30,
-        0x31 => 0x31,
-        0x32 => 0x32,
-        0x33 => 0x33,
-        0x34 => 0x34,
-        0x35 => 0x35,
-        0x36 => 0x36,
-        0x37 => 0x37,
-        0x38 => 0x38,
-        0x39 => 0x39,
-        0x3a => 0x3a,
-        0x3b => 0x3b,
-        0x3c => 0x3c,
-        0x3d => 0x3d,
-        0x3e => 0x3e,
-        0x3f => 0x3f,
-        0x40 => 0x00,
-        0x41 => 0x41,
-        0x42 => 0x42,
-        0x43 => 0x43,
-        0x44 => 0x44,
-        0x45 => 0x45,
-        0x46 => 0x46,
-        0x47 => 0x47,
-        0x48 => 0x48,
-        0x49 => 0x49,
-        0x4a => 0x4a,
-        0x4b => 0x4b,
-        0x4c => 0x4c,
-        0x4d => 0x4d,
-        0x4e => 0x4e,
-        0x4f => 0x4f,
-        0x50 => 0x50,
-        0x51 => 0x51,
-        0x52 => 0x52,
-        0x53 => 0x53,
-        0x54 => 0x54,
-        0x55 => 0x55,
-        0x56 => 0x56,
-        0x57 => 0x57,
-        0x58 => 0x58,
-        0x59 => 0x59,
-        0x5a => 0x5a,
-        0x5b => 0xbc,
-        0x5c => 0xaf,
-        0x5d => 0xbe,
-        0x5e => 0x94,
-        0x5f => 0x11,
-        0x61 => 0x61,
-        0x62 => 0x62,
-        0x63 => 0x63,
-        0x64 => 0x64,
-        0x65 => 0x65,
-        0x66 => 0x66,
-        0x67 => 0x67,
-        0x68 => 0x68,
-        0x69 => 0x69,
-        0x6a => 0x6a,
-        0x6b => 0x6b,
-        0x6c => 0x6c,
-        0x6d => 0x6d,
-        0x6e => 0x6e,
-        0x6f => 0x6f,
-        0x70 => 0x70,
-        0x71 => 0x71,
-        0x72 => 0x72,
-        0x73 => 0x73,
-        0x74 => 0x74,
-        0x75 => 0x75,
-        0x76 => 0x76,
-        0x77 => 0x77,
-        0x78 => 0x78,
-        0x79 => 0x79,
-        0x7a => 0x7a,
-        0x7b => 0xa8,
-        0x7c => 0xc0,
-        0x7d => 0xa9,
-        0x7e => 0xbd,
-        0xa1 => 0x40,
-        0xa3 => 0x01,
-        0xa4 => 0x24,
-        0xa5 => 0x03,
-        0xa7 => 0x5f,
-        0xbf => 0x60,
-        0xc4 => 0x5b,
-        0xc5 => 0x0e,
-        0xc6 => 0x1c,
-        0xc7 => 0x09,
-        0xc9 => 0x1f,
-        0xd1 => 0x5d,
-        0xd6 => 0x5c,
-        0xd8 => 0x0b,
-        0xdc => 0x5e,
-        0xdf => 0x1e,
-        0xe0 => 0x7f,
-        0xe4 => 0x7b,
-        0xe5 => 0x0f,
-        0xe6 => 0x1d,
-        0xe8 => 0x04,
-        0xe9 => 0x05,
-        0xec => 0x07,
-        0xf1 => 0x7d,
-        0xf2 => 0x08,
-        0xf6 => 0x7c,
-        0xf8 => 0x0c,
-        0xf9 => 0x06,
-        0xfc => 0x7e,
-        _ => 0xff,
+    if unit < 0x80 {
+        return shown::shown_unit(unit as u8) == unit;
     }
+    false
 }
 
-// The same among the Greek capitals, from 0x393 to 0x3a9.
-fn greek_entry(unit: u16) -> u8
-    requires { ⌜ (0x393 ≤ unit) × (unit < 0x3aa) ⌝ }
-    ensures answer { λ r. ⌜ r ≡ entryOf unit ⌝ }
+// The first of the codes that has the unit, in the main table or behind an escape, or 0x80 where none has. The codes are septets of a number, the
+// lowest first, so that the compiler does not unroll the search into a table of its own.
+fn look(unit: u16, codes: u64, escaped: bool) -> u8
+    ensures { λ r. ⌜ r ≡ looked (unitBehind escaped) (codesIn codes) unit ⌝ }
 {
-    match unit {
-        0x0393 => 0x13,
-        0x0394 => 0x10,
-        0x0398 => 0x19,
-        0x039b => 0x14,
-        0x039e => 0x1a,
-        0x03a0 => 0x16,
-        0x03a3 => 0x18,
-        0x03a6 => 0x12,
-        0x03a8 => 0x17,
-        0x03a9 => 0x15,
-        _ => 0xff,
+    let mut left = codes;
+    while left != 0 {
+        let code = (left & 0x7f) as u8;
+        if unit_of(code, escaped) == unit {
+            return code;
+        }
+        left = left >> 7;
     }
+    0x80
+}
+
+// The unit of the code, in the main table or behind an escape.
+fn unit_of(code: u8, escaped: bool) -> u16
+    ensures { λ r. ⌜ r ≡ unitBehind escaped code ⌝ }
+{
+    if escaped {
+        return shown::after_escape(code);
+    }
+    shown::shown_unit(code)
+}
+
+// The codes at which the main table can list a unit that is not its own code, those that people type most in front. Neither the escape nor a code that
+// is its own unit is among them.
+fn main_codes(unit: u16) -> u64
+    ensures { λ r. ⌜ Suffices mainTable unit (codesIn r) ⌝ }
+{
+    // @ _ $
+    if unit < 0x80 {
+        return 0x8880;
+    }
+    // ¿ £ ¡ § ¥ ¤
+    if unit < 0xc0 {
+        return 0x1203bf000e0;
+    }
+    // Ä É Å Ç Æ
+    if unit < 0xd0 {
+        return 0x1c1238fdb;
+    }
+    // Ü ß Ö Ø Ñ
+    if unit < 0xe0 {
+        return 0x5d1770f5e;
+    }
+    // é ä è à å ì æ
+    if unit < 0xf0 {
+        return 0x7438ffe13d85;
+    }
+    // ü ö ò ù ñ ø
+    if unit < 0x100 {
+        return 0x67d0c23e7e;
+    }
+    // Δ Γ Λ Θ Ξ
+    if unit < 0x3a0 {
+        return 0x1a3250990;
+    }
+    // Ω Σ Π Φ Ψ
+    0x172458c15
+}
+
+// The codes at which the extension can list a unit, likewise. No gap is among them.
+fn extension_codes(unit: u16) -> u64
+    ensures { λ r. ⌜ Suffices extension unit (codesIn r) ⌝ }
+{
+    // [ ] { } \ ~ | ^ and the form feed
+    if unit < 0x80 {
+        return 0xa2901eaf52a1f3c;
+    }
+    // €
+    0x65
 }

@@ -12,7 +12,7 @@ use lib.Dec.{T, eqb, ltb, eqb→eq}
 use lib.ListN.{length, List·getD-eq-default}
 use borrow.Author.Tests.{lt-ltb, le-ltb, ne-eqb, ltb-false}
 use Rattle.lists.specs.Lists.{firstPlace, numbersFrom}
-use Rattle.lists.proofs.Tests.{everyEntry, every-entry, every-below}
+use Rattle.lists.proofs.Tests.{everyEntry, every-entry, everyBelow, every-below}
 use Rattle.letters.specs.declared.Listed.{Listed}
 use Rattle.letters.specs.declared.Listed.the-variants.{Unlisted, Main, Extension}
 use Rattle.letters.specs.Tables.{mainTable, extension, codes, units, among, escape, beside}
@@ -62,34 +62,9 @@ module _ (u k : ℕ) (e : k ≡ entryOf u) where
   unfolding entryOf
   entry-none h = none-by (listedAs u) u k (listed-reads u) refl e h
 
--- the units that the tables list lie below 0x100, among the Greek capitals, or are the euro sign
-unfoldable inside : ℕ → Bool
-inside u = cond (ltb u 0x100) true (cond (ltb u 0x393) false (cond (ltb u 0x3aa) true (eqb u 0x20ac)))
-
 -- a number that fails a test is in no list whose every number passes it
 absent : (test : ℕ → Bool) (xs : List ℕ) → T (everyEntry (λ k. test) 0 xs) → (x : ℕ) → test x ≡ false → among xs x ≡ false
 absent test xs t x out = among-not xs x (λ k h e. subst T (ap test e ∙ out) (every-entry (λ k. test) xs t k h))
-
-main-inside : T (everyEntry (λ k. inside) 0 (units mainTable))
-unfolding inside mainTable
-main-inside = tt
-
-extension-inside : T (everyEntry (λ k. inside) 0 (units extension))
-unfolding inside extension
-extension-inside = tt
-
-outside-is : (u : ℕ) → inside u ≡ false → Unlisted ≡ listedAs u
-unfolding listedIn
-outside-is u out =
-    sym (simp (absent inside (units mainTable) main-inside u out, absent inside (units extension) extension-inside u out))
-
-pub between-unlisted : (u : ℕ) → 0x100 ≤ u → u < 0x393 → Unlisted ≡ listedAs u
-unfolding inside
-between-unlisted u h k = outside-is u (simp (le-ltb u 0x100 h, lt-ltb u 0x393 k))
-
-pub above-unlisted : (u : ℕ) → 0x3aa ≤ u → (u ≡ 0x20ac → ⊥) → Unlisted ≡ listedAs u
-unfolding inside
-above-unlisted u h k = outside-is u (simp (le-ltb u 0x100 (omega arith), le-ltb u 0x393 (omega arith), le-ltb u 0x3aa h, ne-eqb u 0x20ac k))
 
 -- the default of a match on a number: it is none of the arms' numbers
 abbrev pub NoneOf : List ℕ → ℕ → Type 0 → Type 0
@@ -107,13 +82,12 @@ none-among : (ys : List ℕ) (x : ℕ) → NoneOf ys x Unit → among ys x ≡ f
 unfolding among
 none-among ys x h = le-ltb _ _ (subst (λ (n : ℕ). length ys ≤ n) (sym (none-place ys x Unit h .1)) (le-refl (length ys)))
 
--- the default of a match that has an arm for each code
-pub rest-wide : (code : ℕ) → NoneOf (numbersFrom 0 0x80) code Unit → 0x80 ≤ code
-unfolding among firstPlace numbersFrom
-rest-wide code none =
-    elim (decLe 0x80 code) [
+-- the default of a match that has an arm for each number below n
+pub rest-wide : (n x : ℕ) → T (everyBelow (among (numbersFrom 0 n)) n) → NoneOf (numbersFrom 0 n) x Unit → n ≤ x
+rest-wide n x all none =
+    elim (decLe n x) [
       | yes h ↦ h
-      | no h ↦ absurd (subst T (none-among (numbersFrom 0 0x80) code none) (every-below (among (numbersFrom 0 0x80)) 0x80 tt code (omega (arith, h))))
+      | no h ↦ absurd (subst T (none-among (numbersFrom 0 n) x none) (every-below (among (numbersFrom 0 n)) n all x (omega (arith, h))))
     ]
 
 -- each code of a table is below 80
@@ -146,30 +120,3 @@ module _ (code : ℕ) (wide : 0x80 ≤ code) where
   pub escaped-wide : 0 ≡ afterEscape code
   unfolding afterEscapeIn
   escaped-wide = sym (simp (absent narrow (codes extension) extension-narrow code (le-ltb code 0x80 wide), escape-wide) main-wide)
-
--- the units that the tables list, of the n units from one on
-abbrev pub listedFrom : ℕ → ℕ → List ℕ
-listedFrom first zero = []
-listedFrom first (suc n) = elim (isUnlisted (listedAs first)) [ true ↦ listedFrom (suc first) n | false ↦ first ∷ listedFrom (suc first) n ]
-
-unlisted-is : (l : Listed) → isUnlisted l ≡ true → Unlisted ≡ l
-unlisted-is Unlisted e = refl
-unlisted-is (Main code) e = absurd (false≢true e)
-unlisted-is (Extension code) e = absurd (false≢true e)
-
--- a unit of these that is none of the listed is unlisted
-none-first : (first u : ℕ) (rest : List ℕ) (before : Type 0) (b : Bool) → first ≤ u → isUnlisted (listedAs first) ≡ b
-    → ((t : Type 0) → first < u → NoneOf rest u t → Unlisted ≡ listedAs u)
-    → NoneOf (elim b as (λ (t : Bool). List ℕ) [ true ↦ rest | false ↦ first ∷ rest ]) u before → Unlisted ≡ listedAs u
-none-first first u rest before true h e later none =
-    ⊎-elim (λ (same : first ≡ u). unlisted-is (listedAs u) (ap (λ (x : ℕ). isUnlisted (listedAs x)) (sym same) ∙ e))
-    (λ (less : first < u). later before less none) (eq-or-lt-of-le h)
-none-first first u rest before false h e later none =
-    ⊎-elim (λ (same : first ≡ u). absurd (none-place rest u (before × (u ≡ first → ⊥)) none .0 .1 (sym same)))
-    (λ (less : first < u). later (before × (u ≡ first → ⊥)) less none) (eq-or-lt-of-le h)
-
-pub none-listed : (first n u : ℕ) (before : Type 0) → first ≤ u → u < first + n → NoneOf (listedFrom first n) u before → Unlisted ≡ listedAs u
-none-listed first zero u before h below none = absurd (omega arith)
-none-listed first (suc n) u before h below none =
-    none-first first u (listedFrom (suc first) n) before (isUnlisted (listedAs first)) h refl
-    (λ t less left. none-listed (suc first) n u t less (omega arith) left) none
