@@ -39,9 +39,9 @@ bench_compile() {
 bench_harness() {
   local name
   mkdir -p "$bench_out"
-  for name in harness peers plain meter; do bench_compile "$name"; done
+  for name in harness peers plain search meter; do bench_compile "$name"; done
   ld.lld -pie --dynamic-linker /lib64/ld-linux-x86-64.so.2 -o "$bench_out/harness" \
-    "$bench_lib"/{Scrt1.o,crti.o,crtbeginS.o} "$bench_out"/{harness,peers,plain,meter}.o "$1" \
+    "$bench_lib"/{Scrt1.o,crti.o,crtbeginS.o} "$bench_out"/{harness,peers,plain,search,meter}.o "$1" \
     "$bench_lib"/{libc.so.6,libc_nonshared.a,libgcc.a,crtendS.o,crtn.o}
 }
 

@@ -244,6 +244,42 @@ static void plain_result(one_answer *got) {
 
 static const side plain = { "plain", nothing_to_load, ours_prepare, plain_run, plain_run_pages, plain_result, plain_run_keys, plain_run_parts };
 
+/* ---- the plain C loop that searches for a code, of the calls that do ---- */
+
+extern __typeof__(plain_write) search_write;
+extern __typeof__(plain_build_page) search_build_page;
+extern __typeof__(plain_write_pages) search_write_pages;
+extern __typeof__(plain_write_part) search_write_part;
+extern __typeof__(plain_write_parts) search_write_parts;
+extern __typeof__(plain_unit_added) search_unit_added;
+extern __typeof__(plain_unit_taken_back) search_unit_taken_back;
+
+static const char *search_prepare(const one_case *c) {
+  return c->alphabet == 0 && (c->writing || c->service == METER) ? ours_prepare(c) : "searches for no code here";
+}
+
+static void search_run(void) { plain_wrote = search_write(service, reading, given.text, given.units, octets, ROOM_OCTETS); }
+
+static void search_run_pages(void) {
+  if (given.service == BUILT) plain_built = search_build_page(SEQUENCE, IDENTIFIER, reading, given.text, given.units, number);
+  else plain_paged = search_write_pages(SEQUENCE, IDENTIFIER, reading, given.text, given.units, octets, PAGES_OCTETS);
+}
+
+static void search_run_keys(void) {
+  wikuay_meter meter = { WIKUAY_SHORT_MESSAGE, given.writing ? 0 : (uint32_t)given.length };
+  for (size_t i = 0; i < given.units; i++) {
+    plain_keyed = given.writing ? search_unit_added(meter, given.text[i]) : search_unit_taken_back(meter, given.text[given.units - 1 - i]);
+    meter = plain_keyed.meter;
+  }
+}
+
+static void search_run_parts(void) {
+  if (given.service == PART) plain_parted = search_write_part(reading, REFERENCE, given.text, given.units, number, octets, ROOM_OCTETS);
+  else plain_parted = search_write_parts(reading, REFERENCE, given.text, given.units, octets, PARTS_OCTETS, sizes, PARTS_SIZES);
+}
+
+static const side search = { "search", nothing_to_load, search_prepare, search_run, search_run_pages, plain_result, search_run_keys, search_run_parts };
+
 /* ---- the floors: a copy of the message's octets, and for UCS2 the loop that swaps them ---- */
 
 static uint8_t copied[PARTS_OCTETS];
@@ -285,7 +321,7 @@ static const side swap = { "swap", nothing_to_load, swap_prepare, swap_run, NULL
 
 /* ---- one case ---- */
 
-static const side *const every_side[] = { &ours, &plain, &swap, &copy, &peer_libosmocore, &peer_gammu, &peer_wireshark };
+static const side *const every_side[] = { &ours, &plain, &search, &swap, &copy, &peer_libosmocore, &peer_gammu, &peer_wireshark };
 static const side *sides[MOST_SIDES];
 static int sides_len;
 static int timing;
@@ -365,7 +401,7 @@ static void do_case(void) {
       fprintf(stderr, "; wikuay answers ");
       say_answer(&expected);
       fprintf(stderr, "\n");
-      if (sides[s] == &plain) plain_differs = 1;
+      if (sides[s] == &plain || sides[s] == &search) plain_differs = 1;
     }
   }
   if (timing) {
@@ -405,7 +441,7 @@ static void do_case(void) {
       if (counts[0] != counts[counts_len - 1]) {
         /* A peer that asks for storage depends on what the storage held before: its median stands. */
         fprintf(stderr, "bench: %s: the count varies from %lu to %lu\n", sides[s]->name, counts[0], counts[counts_len - 1]);
-        if (sides[s] == &ours || sides[s] == &plain) exit(1);
+        if (sides[s] == &ours || sides[s] == &plain || sides[s] == &search) exit(1);
       }
       unsigned long middle = counts[counts_len / 2];
       if (sides[s] == &ours) printf("\t%lu\t%lu\n", middle, meter_stack(call_of(sides[s]), ours_entry()));

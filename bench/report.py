@@ -6,8 +6,8 @@
 import os
 import sys
 
-SIDES = ["wikuay", "plain", "swap", "copy", "libosmocore", "gammu", "wireshark"]
-HEADS = {"wikuay": "Wikuay", "plain": "plain C loop", "swap": "swap loop", "copy": "copy"}
+SIDES = ["wikuay", "plain", "search", "swap", "copy", "libosmocore", "gammu", "wireshark"]
+HEADS = {"wikuay": "Wikuay", "plain": "plain C loop", "search": "the same, searching", "swap": "swap loop", "copy": "copy"}
 SERVICES = {
     "sms": "short message",
     "page": "broadcast page",
