@@ -20,8 +20,13 @@ LETTERED_UCS2 = {"lettered-ucs2": 40}
 # The keys of a meter, of a text that takes so many septets, and how often the plain loop's cost is allowed: a key that is no small letter is encoded as a
 # text of its own, where the plain loop looks into its table.
 KEYS = {"meter": 182}
-KEY_TIMES = {"letters": 1.55, "accent": 1.65}
-OTHER_KEYS = 2.5
+KEY_TIMES = {"letters": 1.56, "accent": 1.65}
+# Texts whose every unit is searched for in the tables from code to unit, where the plain loop has a table from unit to code: how often its cost is allowed.
+# Of one page of several and of parts more septets are made than leave. Beside the plain loop that searches too, they cost at most a part of its instructions.
+SEARCHED = ("extension", "euro")
+SEARCHED_TIMES = {"built": 3.4, "meter": 3.2, "parts": 3.7, "part": 6.5}
+OTHER_SEARCHED = 2
+SEARCH_PART = 0.25
 # Messages of several pages, all of them and the last one alone: what a page of each holds, septets or units.
 PAGED = {"pages": 93, "pages-ucs2": 41, "built": 93, "built-ucs2": 41}
 MOST_PAGES = 15
@@ -34,21 +39,20 @@ ALONE = 160
 MOST_PARTS = 255
 # All parts of letters cost to write at most so many times as many short messages of 160 letters.
 PARTS_AGAINST_MESSAGES = 1.2
-# How often the plain loop's cost is allowed to the calls on parts, where once is not kept. A text that is not all letters is counted in a pass of its own before
-# it is written, unit by unit where it has extension letters; to write its last part alone, those before it are encoded too. Of UCS2 the plain loop is vector code from end to end.
-PART_TIMES = {("write", "parts", "extension"): 1.65, ("write", "part", "extension"): 2.8,
-              ("write", "parts-ucs2", "han"): 1.25, ("write", "part-ucs2", "han"): 1.3,
+# How often the plain loop's cost is allowed to the calls on parts, where once is not kept: of UCS2 the plain loop is vector code from end to end.
+PART_TIMES = {("write", "parts-ucs2", "han"): 1.25, ("write", "part-ucs2", "han"): 1.3,
               ("read", "parts-ucs2", "han"): 1.7, ("read", "part-ucs2", "han"): 1.9}
 # The calls that count pages or parts only test a text of letters: instructions a letter, at most.
 COUNTING = {"wikuay_count_pages": 2, "wikuay_count_parts": 2}
-# How often the plain loop's cost is allowed, where once is not kept: of UCS2 the plain loop is vector code from end to end, and a page built
-# of extension letters pays for the septets of all pages.
-TIMES = {("write", "pages-ucs2"): 1.05, ("write", "built-ucs2"): 1.45, ("read", "pages-ucs2"): 3, ("write", "built"): 1.2,
+# How often the plain loop's cost is allowed, where once is not kept: of UCS2 the plain loop is vector code from end to end.
+TIMES = {("write", "pages-ucs2"): 1.05, ("write", "built-ucs2"): 1.45, ("read", "pages-ucs2"): 3,
          ("write", "lettered-ucs2"): 1.8, ("read", "lettered-ucs2"): 1.2}
 # Texts that are refused for their last unit, and the accepted text that the same pass judges: its last unit is listed, and is not its own code.
 REFUSED = ("refused", "circumflex")
 ACCEPTED = "accent"
-ARCHIVE_OCTETS = 44 * 1024
+# A unit that is searched for in vain costs so many instructions more than one that is found, at most.
+IN_VAIN = 16
+ARCHIVE_OCTETS = 41 * 1024
 STACK_OCTETS = 1024
 # The septets of 15 pages stand in an array of 1,395 octets, their units of UCS2 in one of 1,230.
 PAGED_STACK_OCTETS = 2304
@@ -81,10 +85,17 @@ def read_table(lines):
     return rows, timed
 
 
+def is_searched(direction, service, text):
+    """Whether a call searches for every unit of a text: the keys of a meter do both ways."""
+    return text in SEARCHED and (direction == "write" or service in KEYS)
+
+
 def allowed(direction, service, text):
     """How often the plain loop's cost is allowed to a call."""
+    if is_searched(direction, service, text):
+        return SEARCHED_TIMES.get(service, OTHER_SEARCHED)
     if service in KEYS:
-        return KEY_TIMES.get(text, OTHER_KEYS)
+        return KEY_TIMES[text]
     return PART_TIMES.get((direction, service, text), TIMES.get((direction, service), 1))
 
 
@@ -113,8 +124,8 @@ def broken_by_figures(rows, timed):
             broken.append(f"{name}: {got:g}, at most {most:g}")
 
     for r in rows:
-        if r.side == "plain" and r.answer != "same":
-            broken.append(f"{r.direction} {r.service} {r.text} {r.length}: the plain loop answers something else")
+        if r.side == "plain" and r.answer != "same" or r.side == "search" and r.answer == "differs":
+            broken.append(f"{r.direction} {r.service} {r.text} {r.length}: the {r.side} loop answers something else")
         if r.side != "wikuay":
             continue
         key = (r.direction, r.service, r.text, r.length)
@@ -122,7 +133,7 @@ def broken_by_figures(rows, timed):
         if r.text in REFUSED:
             if not timed:
                 accepted = cost.get((r.direction, r.service, ACCEPTED, r.length, "wikuay"))
-                hold(f"{name}: a refusal against the accepted text", r.cost, accepted)
+                hold(f"{name}: a refusal against the accepted text", r.cost, accepted and accepted + IN_VAIN)
         elif timed and r.service in COUNTED:
             continue
         elif (r.service in FULL or r.service in COUNTED) and held_to_plain(r):
@@ -130,6 +141,9 @@ def broken_by_figures(rows, timed):
             # The spread of a time is not a fault: a tenth is allowed there.
             times = allowed(r.direction, r.service, r.text) * (1.1 if timed else 1)
             hold(f"{name}: against the plain loop", r.cost, plain and plain * times)
+        searching = cost.get(key + ("search",))
+        if searching and held_to_plain(r) and not timed:
+            hold(f"{name}: against the loop that searches", r.cost, SEARCH_PART * searching)
         if not timed and r.text == "letters" and r.length == FULL.get(r.service):
             hold(f"{name}: instructions", r.cost, MOST[r.direction] * r.length // FULL["sms"])
         if not timed and r.service in PAGED and r.text in LINEAR:
@@ -147,9 +161,9 @@ def broken_by_figures(rows, timed):
             if parts > 1 and over == 0 and (r.direction, r.service) == ("write", "parts"):
                 single = cost.get(("write", "sms", "letters", FULL["sms"], "wikuay"))
                 hold(f"{name}: against as many messages of 160 letters", r.cost, single and PARTS_AGAINST_MESSAGES * parts * single)
-        if not timed and r.service in KEYS and r.text in ("letters", "extension"):
+        if not timed and r.service in KEYS and r.text in ("letters", "euro"):
             # A key takes the same time whatever was typed before: many cost no more than as many first ones.
-            each = 2 if r.text == "extension" else 1
+            each = 2 if r.text == "euro" else 1
             first = cost.get((r.direction, r.service, r.text, each, "wikuay"))
             if r.length > each:
                 hold(f"{name}: against as many first keys", r.cost, first and r.length // each * first)
@@ -229,7 +243,9 @@ def self_test():
                     continue
                 for length in (FROM - 2, FROM, full - full % 2 if text == "extension" else full):
                     rows.append(Row(direction, service, text, length, "wikuay", "same", 9.0 * length, 400))
-                    rows.append(Row(direction, service, text, length, "plain", "same", 9.0 * length, None))
+                    rows.append(Row(direction, service, text, length, "plain", "same", 9.0 * length / allowed(direction, service, text), None))
+                    if is_searched(direction, service, text):
+                        rows.append(Row(direction, service, text, length, "search", "same", 9.0 * length / SEARCH_PART, None))
         for side, each in (("wikuay", 8), ("plain", 6), ("swap", 4)):
             rows.append(Row(direction, "sms-ucs2", "han", FULL_UCS2, side, "same", each * FULL_UCS2, 400))
         for service, full in LETTERED_UCS2.items():
@@ -237,10 +253,10 @@ def self_test():
                 rows.append(Row(direction, service, "han", length, "wikuay", "same", 9.0 * length, 400))
                 rows.append(Row(direction, service, "han", length, "plain", "same", 9.0 * length / TIMES.get((direction, service), 1), None))
         for service, full in KEYS.items():
-            for text, each in (("letters", 1), ("extension", 2)):
+            for text, each in (("letters", 1), ("euro", 2)):
                 for length in (each, FROM, full):
                     rows.append(Row(direction, service, text, length, "wikuay", "same", 9.0 * length, 400))
-                    rows.append(Row(direction, service, text, length, "plain", "same", 9.0 * length / KEY_TIMES.get(text, OTHER_KEYS), None))
+                    rows.append(Row(direction, service, text, length, "plain", "same", 9.0 * length / allowed(direction, service, text), None))
         for service, room in PAGED.items():
             for pages in (1, 2, MOST_PAGES):
                 text = "han" if service.endswith("ucs2") else "letters"
@@ -278,7 +294,9 @@ def self_test():
             breaks(": instructions", whole, cost=MOST[direction] * full // 160 + 1)
             breaks("plain loop", whole, cost=9.0 * full + 1)
     breaks("plain loop", lambda r: is_ours(r) and r.service in FULL and r.text == "extension" and r.length >= FROM, cost=9.0 * 1395 + 1)
-    breaks("a refusal", lambda r: is_ours(r) and r.text in REFUSED, cost=9.0 * 39015 + 1)
+    breaks("loop that searches", lambda r: is_ours(r) and r.service in FULL and is_searched(r.direction, r.service, r.text) and r.length >= FROM,
+           cost=9.0 * 1395 + 1)
+    breaks("a refusal", lambda r: is_ours(r) and r.text in REFUSED, cost=9.0 * 39015 + IN_VAIN + 1)
     breaks("plain loop", lambda r: is_ours(r) and r.service in LETTERED_UCS2 and r.length >= FROM, cost=9.0 * 1395 + 1)
     breaks("plain loop", lambda r: is_ours(r) and r.service in KEYS and r.length >= FROM, cost=9.0 * 1395 + 1)
     breaks("as many first keys", lambda r: is_ours(r) and r.service in KEYS and r.length >= FROM, cost=9.0 * 1395 + 1)
@@ -302,7 +320,7 @@ def self_test():
     breaks("octets of stack", lambda r: is_ours(r) and r.service not in PAGED and r.service not in PARTED, stack=STACK_OCTETS)
     breaks("octets of stack", is_ours, stack=max(PAGED_STACK_OCTETS, PARTED_STACK_OCTETS))
     breaks("octets of stack", lambda r: is_ours(r) and r.service in PARTED, stack=PARTED_STACK_OCTETS)
-    breaks("something else", lambda r: r.side == "plain" and r.service != "sms-ucs2", answer="differs", cost=9.0)
+    breaks("something else", lambda r: r.side in ("plain", "search") and r.service != "sms-ucs2", answer="differs", cost=9.0)
     slow = [r._replace(cost=2 * r.cost if is_ours(r) and r.text not in REFUSED else r.cost) for r in rows]
     assert any("plain loop" in line for line in broken_by_figures(slow, True)[0])
     print("judge: every limit on the figures can be broken")
