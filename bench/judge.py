@@ -20,11 +20,11 @@ LETTERED_UCS2 = {"lettered-ucs2": 40}
 # The keys of a meter, of a text that takes so many septets, and how often the plain loop's cost is allowed: a key that is no small letter is encoded as a
 # text of its own, where the plain loop looks into its table.
 KEYS = {"meter": 182}
-KEY_TIMES = {"letters": 1.56, "accent": 1.65}
+KEY_TIMES = {"letters": 1.56, "accent": 1.67}
 # Texts whose every unit is searched for in the tables from code to unit, where the plain loop has a table from unit to code: how often its cost is allowed.
 # Of one page of several and of parts more septets are made than leave. Beside the plain loop that searches too, they cost at most a part of its instructions.
 SEARCHED = ("extension", "euro")
-SEARCHED_TIMES = {"built": 3.4, "meter": 3.2, "parts": 3.7, "part": 6.5}
+SEARCHED_TIMES = {"built": 3.4, "meter": 3.2, "parts": 3.7, "part": 6.8}
 OTHER_SEARCHED = 2
 SEARCH_PART = 0.25
 # Messages of several pages, all of them and the last one alone: what a page of each holds, septets or units.
