@@ -1,4 +1,6 @@
 // The library's answers in numbers: what each reports, by the definitions of the crate that gives it.
+#![tactic(auto)]
+
 ghost use Rattle.std.specs.Prelude.{◌≡◌};
 ghost use Rattle.answers.specs.Answers.{done_answer, refused_answer, read_answer, read_refused_answer, filled_answer, octet_written_answer, octet_read_answer, held_answer, shown_told, lettered_told, refused_told, told_answer};
 
@@ -9,7 +11,7 @@ use words::{Filled, Refusal};
 
 // What a call answers that writes, or that fills a lent buffer.
 #[repr(C)]
-#[derive(Drop)]
+#[derive(Clone, Copy)]
 pub struct Answer {
     pub refusal: u32,
     pub count: u32,
@@ -20,7 +22,7 @@ pub struct Answer {
 
 // What a call answers that reads a coding octet.
 #[repr(C)]
-#[derive(Drop)]
+#[derive(Clone, Copy)]
 pub struct ReadAnswer {
     pub refusal: u32,
     pub position: usize,
@@ -128,7 +130,7 @@ pub fn held(answer: Held) -> ReadAnswer
 }
 
 // What reading a message answers, its reading joined: C's own answer is made of it in one place, message_told.
-#[derive(Drop)]
+#[derive(Clone, Copy)]
 pub struct MessageTold {
     pub refusal: u32,
     pub position: usize,

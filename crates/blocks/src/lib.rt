@@ -1,4 +1,6 @@
 // The block of 88 octets, by value: its header read, one made of a header and a page's text, and one taken out of a run of them.
+#![tactic(auto)]
+
 ghost use Rattle.std.specs.Prelude.{◌≡◌, ◌+◌, ◌*◌};
 ghost use Rattle.pages.specs.Blocks.{header_of, block_of};
 ghost use Rattle.pages.specs.Ordered.{block_or_zeros};

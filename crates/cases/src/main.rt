@@ -1,4 +1,6 @@
 // Runs cases from standard input on the library (docs/CASES.md): a line for each that differs, and the totals.
+#![tactic(auto)]
+
 mod long_text;
 mod reading;
 mod values;
@@ -13,7 +15,7 @@ use wikuay::{broadcasts, meters};
 
 // The lines so far, the cases among them, and those that differ; and how much of the present line has come, which stays at
 // 16385 for a line that is too long.
-#[derive(Drop)]
+#[derive(Clone, Copy)]
 struct Totals {
     lines: u64,
     cases: u64,

@@ -11,7 +11,7 @@ use names::ReadingNumbers;
 use printed::put;
 use typed::{Elements, Number};
 
-#[derive(Drop)]
+#[derive(Clone, Copy)]
 pub(crate) struct Values {
     pub refusal: usize,
     pub position: usize,
@@ -258,7 +258,7 @@ fn take(
 }
 
 // How far a line is taken.
-#[derive(Drop)]
+#[derive(Clone, Copy)]
 struct Taken {
     at: usize,
     values: Values,

@@ -1,4 +1,6 @@
 // What a service adds to the septets of a text and drops from them, and what fits it: the page, and what numbers and the last septets decide.
+#![tactic(auto)]
+
 ghost use Rattle.std.specs.Prelude.{◌≡◌, length, take};
 ghost use Rattle.lists.specs.Closing.{without_closing};
 ghost use Rattle.stream.specs.Pages.{page};

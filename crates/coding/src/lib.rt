@@ -1,4 +1,6 @@
 // The data coding octet: read under a service, and written as the smallest octet that reads so.
+#![tactic(auto)]
+
 ghost use Rattle.std.specs.Prelude.{◌≡◌, ◌<◌, ◌%◌, ltb, length, cond, not, ◌&&◌};
 ghost use Rattle.words.specs.Sizes.{is_old_page};
 ghost use Rattle.coding.specs.Readings.{reading_from, unmentioned, plain_in, with_alphabet, with_letters};
@@ -19,7 +21,7 @@ use keys::{CLASS, COMPRESSED, DELETION, HEADER, LANGUAGE, NOTICE, PLAIN, PREFIX,
 use words::{Refusal, Service};
 
 // What a data coding octet says, and the letters of the language in front of a text.
-#[derive(Drop)]
+#[derive(Clone, Copy)]
 pub struct Reading {
     pub alphabet: Alphabet,
     pub compressed: bool,
@@ -34,21 +36,21 @@ pub struct Reading {
 }
 
 // What reading an octet answers.
-#[derive(Drop)]
+#[derive(Clone, Copy)]
 pub enum OctetRead {
     Done(Reading),
     Refused(Refusal),
 }
 
 // What writing a reading answers.
-#[derive(Drop)]
+#[derive(Clone, Copy)]
 pub enum OctetWritten {
     Done(u8),
     Refused(Refusal),
 }
 
 // What text a reading holds.
-#[derive(Drop)]
+#[derive(Clone, Copy)]
 pub enum Held {
     Septets,
     Units,

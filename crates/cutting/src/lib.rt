@@ -1,4 +1,6 @@
 // How a text is cut into the parts of a long short message: how many it takes, and how much each holds.
+#![tactic(auto)]
+
 ghost use Rattle.std.specs.Prelude.{◌≡◌, cond, length};
 ghost use Rattle.parted.specs.Parts.{room_behind, parts_holding};
 ghost use Rattle.parted.specs.Cutting.{planned_as, plan_room, part_length};

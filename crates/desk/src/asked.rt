@@ -46,7 +46,7 @@ const JSON: usize = 12;
 // No more is typed or read: a text of 15 pages, each of its units in four digits, takes 5,580. A text of more than 108 parts cannot be typed.
 pub(crate) const MOST: usize = 8192;
 
-#[derive(Drop)]
+#[derive(Clone, Copy)]
 pub(crate) struct Job {
     // What is wrong, and what is shown with it (fault::say).
     pub fault: usize,
@@ -148,7 +148,7 @@ fn end_at(text: &[u8], from: usize, mark: u8, rests: bool) -> usize
 
 // Digits so far, and those of the present group; HEX is a group that `0x` opens and that has none yet. No group is so long, and it counts as whole
 // octets and units.
-#[derive(Drop)]
+#[derive(Clone, Copy)]
 struct Cleaned {
     n: usize,
     group: usize,
@@ -204,7 +204,7 @@ pub(crate) fn clean(text: &[u8], mask: usize, digits: &mut [u8]) -> usize
 }
 
 // The counts so far, and the digits of the present one: how many, and what they say.
-#[derive(Drop)]
+#[derive(Clone, Copy)]
 struct Counting {
     n: usize,
     digits: usize,

@@ -1,5 +1,7 @@
 // The command: texts written as messages of one page or part or of several, messages read, joined and drawn, coding octets told, and the room left of a text
 // that is typed, by the proved library.
+#![tactic(auto)]
+
 mod asked;
 mod broadcast;
 mod draw;
@@ -110,7 +112,7 @@ fn request(line: &[u8], number: usize, layout: usize, out: &mut [u8]) -> usize {
 
 // The lines so far, how much of the present line has come, which stays at the buffer's length for a line that is too long, and whether any
 // was answered.
-#[derive(Drop)]
+#[derive(Clone, Copy)]
 struct Flow {
     lines: usize,
     len: usize,

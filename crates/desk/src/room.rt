@@ -11,7 +11,7 @@ const BACK: u16 = 0x0008;
 const CLEAR: u16 = 0x0018;
 
 // How far the keys are told: where that ends, the record, and how many units there are.
-#[derive(Drop)]
+#[derive(Clone, Copy)]
 struct Typing {
     end: usize,
     meter: MeterNumbers,

@@ -139,7 +139,7 @@ fn put_mark(
 }
 
 // How far a pattern is put: where it ends, the numbers that are used, and the parts that are passed by before the one that is wanted.
-#[derive(Drop)]
+#[derive(Clone, Copy)]
 struct Told {
     end: usize,
     used: usize,

@@ -1,9 +1,11 @@
 // The values of the fields of a reading, with their numbers.
+#![tactic(auto)]
+
 ghost use Rattle.std.specs.Prelude.{◌≡◌};
 ghost use Rattle.fields.specs.Letters.{is_letter, are_letters, any_letter};
 ghost use Rattle.fields.specs.Numbers.{alphabet_no, class_no, language_no, kind_no, notice_no, flag_no, notice_at};
 
-#[derive(Drop)]
+#[derive(Clone, Copy)]
 pub enum Alphabet {
     SevenBit,
     EightBit,
@@ -12,7 +14,7 @@ pub enum Alphabet {
     I1,
 }
 
-#[derive(Drop)]
+#[derive(Clone, Copy)]
 pub enum Class {
     Unset,
     Class0,
@@ -23,7 +25,7 @@ pub enum Class {
     User2,
 }
 
-#[derive(Drop)]
+#[derive(Clone, Copy)]
 pub enum Language {
     German,
     English,
@@ -49,7 +51,7 @@ pub enum Language {
 }
 
 // What waits for the subscriber.
-#[derive(Drop)]
+#[derive(Clone, Copy)]
 pub enum Kind {
     Voicemail,
     Fax,
@@ -58,7 +60,7 @@ pub enum Kind {
 }
 
 // A waiting notice; one that is not active is still a notice.
-#[derive(Drop)]
+#[derive(Clone, Copy)]
 pub enum Notice {
     Nothing,
     Discard { active: bool, kind: Kind },
@@ -66,7 +68,7 @@ pub enum Notice {
 }
 
 // The two letters that name the language of a text, in front of it. A letter is its octet, and 0 where it is absent.
-#[derive(Drop)]
+#[derive(Clone, Copy)]
 pub struct Letters {
     pub first: u8,
     pub second: u8,

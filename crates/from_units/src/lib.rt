@@ -1,4 +1,6 @@
 // UCS2 units into octets under each service: high octet first, and the page of 41 units.
+#![tactic(auto)]
+
 ghost use Rattle.std.specs.Prelude.{◌≡◌, ◌≤◌, length, take};
 ghost use Rattle.words.specs.declared.Service.TheVariants.{ShortMessage};
 ghost use Rattle.stream.specs.Ucs2.{unit_octets, unit_page};

@@ -1,4 +1,6 @@
 // Eight septets as one number of 64 bits: moved together they are seven octets, moved apart one lies in each octet.
+#![tactic(auto)]
+
 ghost use Rattle.std.specs.Prelude.{◌≡◌};
 ghost use Rattle.stream.specs.Stream.{octets_for};
 ghost use Rattle.stream.specs.Groups.{together, apart, left_over};

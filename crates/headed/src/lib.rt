@@ -1,9 +1,11 @@
 // The user data header in front of a short message's text: definitions and laws, and the types of what it says. No code.
+#![tactic(auto)]
+
 use words::Refusal;
 
 // What the 8-bit concatenation element says of a part: the reference that the parts of one message share, how many parts the message has, and which
 // of them this is, from 1.
-#[derive(Drop)]
+#[derive(Clone, Copy)]
 pub struct Numbers {
     pub reference: u8,
     pub total: u8,
@@ -11,14 +13,14 @@ pub struct Numbers {
 }
 
 // Whether a header has that element, and what it says as it stands.
-#[derive(Drop)]
+#[derive(Clone, Copy)]
 pub enum Concatenation {
     Absent,
     Present(Numbers),
 }
 
 // What reading a header answers.
-#[derive(Drop)]
+#[derive(Clone, Copy)]
 pub enum HeaderRead {
     // How many octets it takes, its length octet too, and the numbers of the part.
     Done {

@@ -1,4 +1,6 @@
 // The user data header of a short message, read from octets and written.
+#![tactic(auto)]
+
 ghost use Rattle.std.specs.Prelude.{◌≡◌, List, ◌+◌, ◌≤◌, length};
 ghost use Rattle.headed.specs.declared.Concatenation.TheVariants.{Absent};
 ghost use Rattle.headed.specs.Header.{elements_of, header_reads, concatenation_header, septets_over};

@@ -1,4 +1,6 @@
 // The blocks of a message of several pages joined, in whatever order they come, into its text.
+#![tactic(auto)]
+
 ghost use Rattle.std.specs.Prelude.{◌≡◌, true, false, ◌*◌, ◌≤◌, length};
 ghost use Rattle.lists.specs.Lists.{laid};
 ghost use Rattle.pages.specs.Joined.{header_at, total_at, wrong_pages, joined_from, join_answers, join_leaves};

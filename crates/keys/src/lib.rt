@@ -1,5 +1,7 @@
 // The key of a data coding octet: one number for all that it says under a service, each field in a place of its own; and the keys of the
 // groups that short messages and pages share.
+#![tactic(auto)]
+
 ghost use Rattle.std.specs.Prelude.{◌≡◌};
 ghost use Rattle.keys.specs.Keys.{general_key, last_key};
 

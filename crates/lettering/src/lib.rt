@@ -1,4 +1,6 @@
 // A broadcast page that begins with the letters of its language (document 02, W2): written and read.
+#![tactic(auto)]
+
 ghost use Rattle.std.specs.Prelude.{◌≡◌, true, false, ◌≤◌, length};
 ghost use Rattle.stream.specs.SeptetCalls.{septets_fit};
 ghost use Rattle.words.specs.declared.Service.TheVariants.{Broadcast};

@@ -1,5 +1,7 @@
 // The room left while a text is typed (document 02, W4): one record, which each key changes in place, by a function that takes it and gives it back.
 // A key takes the same time whatever was typed before: no text is kept.
+#![tactic(auto)]
+
 ghost use Rattle.std.specs.Prelude.{true, ◌≡◌, ◌≤◌};
 ghost use Rattle.metered.specs.Metered.{add, back, clear, new_meter, remains, unit_septets, refused_key, keyed};
 ghost use Rattle.metered.specs.Inner.{less_or, judged_as};

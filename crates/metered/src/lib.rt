@@ -1,8 +1,10 @@
 // The room left while a text is typed: definitions and laws, and the types of its record and of a key's answer. No code.
+#![tactic(auto)]
+
 use words::{Refusal, Service};
 
 // The record that each key changes.
-#[derive(Drop)]
+#[derive(Clone, Copy)]
 pub struct Meter {
     pub service: Service,
     // How many septets the text takes.
@@ -10,7 +12,7 @@ pub struct Meter {
 }
 
 // What a key answers.
-#[derive(Drop)]
+#[derive(Clone, Copy)]
 pub enum Pressed {
     // It went.
     Went,
@@ -19,7 +21,7 @@ pub enum Pressed {
 }
 
 // A key by value.
-#[derive(Drop)]
+#[derive(Clone, Copy)]
 pub struct Keyed {
     // The record after it.
     pub meter: Meter,

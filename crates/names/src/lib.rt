@@ -1,4 +1,6 @@
 // Numbers that cross from C, and the reading whose fields they name.
+#![tactic(auto)]
+
 ghost use Rattle.std.specs.Prelude.{◌≡◌, true, cond, ◌<◌};
 ghost use Rattle.names.specs.Names.{named_notice, names_flags, names_fields, reading_with, named_reading, numbers_of};
 ghost use Rattle.names.specs.Joined.{joined_fields, joined_rest, joined_numbers, parted_numbers};
@@ -14,7 +16,7 @@ pub mod said;
 
 // A reading in numbers, as C hands it over.
 #[repr(C)]
-#[derive(Drop)]
+#[derive(Clone, Copy)]
 pub struct ReadingNumbers {
     pub alphabet: u8,
     pub compressed: u8,
@@ -31,21 +33,21 @@ pub struct ReadingNumbers {
 
 // The numbers of a reading joined into two. What is known before a message is read goes past the reading of its text so: the compiler keeps two values
 // where eleven would go through memory.
-#[derive(Drop)]
+#[derive(Clone, Copy)]
 pub struct JoinedNumbers {
     pub front: u32,
     pub back: u64,
 }
 
 // What a number says of a waiting notice.
-#[derive(Drop)]
+#[derive(Clone, Copy)]
 pub enum NamedNotice {
     Named(Notice),
     Unnamed,
 }
 
 // What the numbers of its fields say of a reading.
-#[derive(Drop)]
+#[derive(Clone, Copy)]
 pub enum NamedReading {
     Named(Reading),
     Unnamed,

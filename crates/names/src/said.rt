@@ -14,7 +14,7 @@ use words::{Refusal, Service};
 use writer::{MessageCoding, Settled};
 
 // What one message is read with.
-#[derive(Drop)]
+#[derive(Clone, Copy)]
 pub enum Heard {
     Text { ucs2: bool, reading: JoinedNumbers },
     // A broadcast page behind the letters of its language.

@@ -1,4 +1,6 @@
 // The smallest data coding octet of a key: the one octet that can be is built and read back.
+#![tactic(auto)]
+
 ghost use Rattle.std.specs.Prelude.{◌≡◌, ◌<◌};
 ghost use Rattle.octets.specs.Smallest.{short_octet, page_octet};
 ghost use Rattle.keys.specs.Keys.{class_digit};

@@ -1,4 +1,6 @@
 // Which of the blocks holds which page: whether they are the pages of one message, and where each page stands.
+#![tactic(auto)]
+
 ghost use Rattle.std.specs.Prelude.{◌≡◌, not, ◌&&◌, ◌<◌, eqb, get_or};
 ghost use Rattle.lists.specs.Lists.{numbers_from};
 ghost use Rattle.filling.specs.Numbered.{lacks, some_of};

@@ -1,4 +1,6 @@
 // Septets into octets and back, under each service.
+#![tactic(auto)]
+
 ghost use Rattle.std.specs.Prelude.{◌≡◌, length};
 ghost use Rattle.words.specs.declared.Service.TheVariants.{ShortMessage};
 ghost use Rattle.stream.specs.SeptetCalls.{pack_answers, pack_leaves, unpack_answers, unpack_leaves};

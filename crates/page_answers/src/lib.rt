@@ -1,4 +1,6 @@
 // The answers of the calls with pages in numbers: what each reports, by the definitions of the crate that gives it.
+#![tactic(auto)]
+
 ghost use Rattle.std.specs.Prelude.{◌≡◌};
 ghost use Rattle.page_answers.specs.PageAnswers.{header_numbers, pages_done_answer, pages_refused_answer, page_answer, join_done_answer, join_refused_answer};
 
@@ -9,14 +11,14 @@ use words::Refusal;
 
 // A block by value.
 #[repr(C)]
-#[derive(Drop)]
+#[derive(Clone, Copy)]
 pub struct Block {
     pub octets: [u8; 88],
 }
 
 // What stands in a block in front of the text.
 #[repr(C)]
-#[derive(Drop)]
+#[derive(Clone, Copy)]
 pub struct BlockHeader {
     pub sequence: u16,
     pub identifier: u16,
@@ -27,7 +29,7 @@ pub struct BlockHeader {
 
 // What a call answers that counts the pages of a text, or writes all of them.
 #[repr(C)]
-#[derive(Drop)]
+#[derive(Clone, Copy)]
 pub struct PagesAnswer {
     pub refusal: u32,
     pub pages: u32,
@@ -37,7 +39,7 @@ pub struct PagesAnswer {
 
 // What a call answers that builds a page.
 #[repr(C)]
-#[derive(Drop)]
+#[derive(Clone, Copy)]
 pub struct PageAnswer {
     pub refusal: u32,
     pub pages: u32,
@@ -47,7 +49,7 @@ pub struct PageAnswer {
 
 // What a call answers that joins pages.
 #[repr(C)]
-#[derive(Drop)]
+#[derive(Clone, Copy)]
 pub struct JoinAnswer {
     pub refusal: u32,
     pub pages: u32,

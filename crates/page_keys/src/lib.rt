@@ -1,4 +1,6 @@
 // The key of a data coding octet of a broadcast page and of USSD.
+#![tactic(auto)]
+
 ghost use Rattle.std.specs.Prelude.{◌≡◌};
 ghost use Rattle.keys.specs.Keys.{language_key, header_key, page_key};
 

@@ -1,9 +1,11 @@
 // Broadcasts of several pages: definitions, theorems and the types of answers. No code.
+#![tactic(auto)]
+
 use coding::Reading;
 use words::Refusal;
 
 // What stands in a block in front of the text.
-#[derive(Drop)]
+#[derive(Clone, Copy)]
 pub struct Header {
     pub sequence: u16,
     pub identifier: u16,
@@ -15,7 +17,7 @@ pub struct Header {
 }
 
 // How many pages a text takes.
-#[derive(Drop)]
+#[derive(Clone, Copy)]
 pub enum Counted {
     Pages(usize),
     // Why it takes none.
@@ -23,14 +25,14 @@ pub enum Counted {
 }
 
 // What building a page answers: how many pages the message has, and beside that the block, all zero where it is refused.
-#[derive(Drop)]
+#[derive(Clone, Copy)]
 pub struct Built {
     pub answer: Counted,
     pub block: [u8; 88],
 }
 
 // What writing all pages answers.
-#[derive(Drop)]
+#[derive(Clone, Copy)]
 pub enum PagesWritten {
     // How many octets it stored at the front of the lent buffer, and how many pages they are.
     Done { octets: usize, pages: usize },
@@ -39,7 +41,7 @@ pub enum PagesWritten {
 }
 
 // What joining pages answers.
-#[derive(Drop)]
+#[derive(Clone, Copy)]
 pub enum Joined {
     // How many units it stored at the front of the lent buffer, what the coding octet says, and the rest of the header.
     Done {
@@ -54,7 +56,7 @@ pub enum Joined {
 }
 
 // Whether blocks are the pages of one message, and of each page, by its number, one more than its place among the blocks: 0 is none.
-#[derive(Drop)]
+#[derive(Clone, Copy)]
 pub struct Order {
     pub right: bool,
     pub places: [usize; 16],

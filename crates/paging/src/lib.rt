@@ -1,4 +1,6 @@
 // Text into the blocks of a message of several pages: how many it takes, one of them by value, and all end to end.
+#![tactic(auto)]
+
 ghost use Rattle.std.specs.Prelude.{◌≡◌, true, false, cond, ◌++◌, ℕ, ◌+◌, ◌*◌, ◌≤◌, ◌<◌, length, take, drop};
 ghost use Rattle.lists.specs.Lists.{laid};
 ghost use Rattle.lists.proofs.Below.{Below};
@@ -177,7 +179,7 @@ fn write_text(
 }
 
 // How many pages a text takes, and how many septets of it were stored: none of UCS2, and of a 7-bit text all before the first unlisted unit.
-#[derive(Drop)]
+#[derive(Clone, Copy)]
 struct Sized {
     answer: Counted,
     septets: usize,

@@ -1,4 +1,6 @@
 // The answers of the calls with parts in numbers: what each reports, by the definitions of the crate that gives it.
+#![tactic(auto)]
+
 ghost use Rattle.std.specs.Prelude.{◌≡◌};
 ghost use Rattle.part_answers.specs.PartAnswers.{parts_done_answer, parts_refused_answer, part_done_answer, part_refused_answer, part_read_answer, parts_join_done_answer, parts_join_refused_answer};
 
@@ -11,7 +13,7 @@ use words::Refusal;
 
 // What a call answers that counts the parts of a text, writes one, or writes all of them.
 #[repr(C)]
-#[derive(Drop)]
+#[derive(Clone, Copy)]
 pub struct PartsAnswer {
     pub refusal: u32,
     pub parts: u32,
@@ -24,7 +26,7 @@ pub struct PartsAnswer {
 
 // What a call answers that reads a part.
 #[repr(C)]
-#[derive(Drop)]
+#[derive(Clone, Copy)]
 pub struct PartAnswer {
     pub refusal: u32,
     pub numbered: u8,
@@ -38,7 +40,7 @@ pub struct PartAnswer {
 
 // What a call answers that joins parts.
 #[repr(C)]
-#[derive(Drop)]
+#[derive(Clone, Copy)]
 pub struct PartsJoinAnswer {
     pub refusal: u32,
     pub parts: u32,

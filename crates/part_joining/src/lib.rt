@@ -1,4 +1,6 @@
 // The parts of a long short message joined, in whatever order they come, into its text.
+#![tactic(auto)]
+
 ghost use Rattle.std.specs.Prelude.{◌≡◌, true, false, cond, ◌-◌, ◌≤◌, leb, length, get_or};
 ghost use Rattle.lists.specs.Lists.{laid};
 ghost use Rattle.lists.proofs.Below.{Below};
@@ -146,7 +148,7 @@ fn content_length<'a>(
 }
 
 // Where the part of a number begins, its count, how much of that the header takes, and how many septets or units stand behind it.
-#[derive(Drop)]
+#[derive(Clone, Copy)]
 struct PartAt {
     start: usize,
     count: usize,
@@ -270,7 +272,7 @@ fn text_length<'a>(
 }
 
 // Where the septets of one part that are read together stand, and whether an escape is left behind them whose code is in the next part.
-#[derive(Drop)]
+#[derive(Clone, Copy)]
 struct Run {
     begin: usize,
     end: usize,

@@ -1,4 +1,6 @@
 // The parts of a long short message put in order: whether they are those of one message, which number each has, and where it begins.
+#![tactic(auto)]
+
 ghost use Rattle.std.specs.Prelude.{◌≡◌, true, false, not, ◌&&◌, ◌≤◌, eqb, replicate};
 ghost use Rattle.headed.specs.Header.{header_size, right_header, header_numbers};
 ghost use Rattle.filling.specs.Numbered.{lacks};
@@ -92,7 +94,7 @@ fn refused(refusal: Refusal) -> PartOrder
 }
 
 // What a pass over headers knows: whether the last one is right, and whether what stands behind each so far is even.
-#[derive(Drop)]
+#[derive(Clone, Copy)]
 struct Head {
     right: bool,
     even: bool,

@@ -1,4 +1,6 @@
 // One short message read, with or without a user data header in front of its text.
+#![tactic(auto)]
+
 ghost use Rattle.std.specs.Prelude.{◌≡◌, true, false, cond, ◌≤◌, ltb, length};
 ghost use Rattle.headed.specs.Header.{septets_over};
 ghost use Rattle.parted.specs.Read.{count_fits, part_reads, part_read_leaves};

@@ -1,10 +1,12 @@
 // Long short messages: definitions and laws, and the types of answers. No code.
+#![tactic(auto)]
+
 use coding::Reading;
 use headed::Concatenation;
 use words::Refusal;
 
 // How many parts a text takes.
-#[derive(Drop)]
+#[derive(Clone, Copy)]
 pub enum Counted {
     Parts(usize),
     // Why it takes none.
@@ -12,7 +14,7 @@ pub enum Counted {
 }
 
 // How a text is cut into parts.
-#[derive(Drop)]
+#[derive(Clone, Copy)]
 pub struct Plan {
     pub ucs2: bool,
     // Whether the units are laid as they stand: those of UCS2, and those of a 7-bit text that are all their own codes.
@@ -24,7 +26,7 @@ pub struct Plan {
 }
 
 // What planning a text answers.
-#[derive(Drop)]
+#[derive(Clone, Copy)]
 pub enum Planned {
     Parts(Plan),
     // Why it takes none.
@@ -32,7 +34,7 @@ pub enum Planned {
 }
 
 // What writing one part answers.
-#[derive(Drop)]
+#[derive(Clone, Copy)]
 pub enum PartWritten {
     // How many octets it stored at the front of the lent buffer, the count that travels with them, whether a header stands in front, the data coding
     // octet, and how many parts the message has.
@@ -48,7 +50,7 @@ pub enum PartWritten {
 }
 
 // What writing all parts answers.
-#[derive(Drop)]
+#[derive(Clone, Copy)]
 pub enum PartsWritten {
     // How many octets it stored at the front of the first lent buffer, whether a header stands in front of each part, the data coding octet, and how
     // many parts the octets are. In the second buffer each has two octets: its count, and how many octets it has.
@@ -63,7 +65,7 @@ pub enum PartsWritten {
 }
 
 // What reading one part, or a message that is none, answers.
-#[derive(Drop)]
+#[derive(Clone, Copy)]
 pub enum PartRead {
     // How many units it stored at the front of the lent buffer, what the coding octet says, and the numbers that the header gives.
     Done {
@@ -76,7 +78,7 @@ pub enum PartRead {
 }
 
 // What reading a text behind a header, or without one, answers, by itself.
-#[derive(Drop)]
+#[derive(Clone, Copy)]
 pub enum TextRead {
     // How many units it stored at the front of the lent buffer, and the numbers that the header gives.
     Done {
@@ -88,7 +90,7 @@ pub enum TextRead {
 }
 
 // What joining parts answers.
-#[derive(Drop)]
+#[derive(Clone, Copy)]
 pub enum PartsJoined {
     // How many units it stored at the front of the lent buffer, what the coding octet says, the reference, and how many parts the message has.
     Done {
@@ -102,7 +104,7 @@ pub enum PartsJoined {
 }
 
 // Whether parts are those of one message.
-#[derive(Drop)]
+#[derive(Clone, Copy)]
 pub enum PartsJudged {
     Right,
     // Why they are not.
@@ -110,7 +112,7 @@ pub enum PartsJudged {
 }
 
 // What putting parts in order answers.
-#[derive(Drop)]
+#[derive(Clone, Copy)]
 pub struct PartOrder {
     pub judged: PartsJudged,
     // The reference that they share, and 0 where they are refused.

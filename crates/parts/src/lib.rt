@@ -1,4 +1,6 @@
 // Text into the parts of a long short message: how many it takes, one of them, and all end to end.
+#![tactic(auto)]
+
 ghost use Rattle.std.specs.Prelude.{◌≡◌, true, false, cond, [], ℕ, ◌+◌, ◌-◌, ◌*◌, ◌≤◌, ◌<◌, length, take, drop, replicate, get_or};
 ghost use Rattle.lists.specs.Lists.{laid};
 ghost use Rattle.lists.proofs.Below.{Below};
@@ -21,7 +23,7 @@ use words::{Refusal, Service};
 use writer::{Settled, TextCoding};
 
 // Where a part begins in a text: at a unit, or behind the escape of one.
-#[derive(Drop)]
+#[derive(Clone, Copy)]
 struct Place {
     unit: usize,
     half: bool,
@@ -157,7 +159,7 @@ fn write_all(
 }
 
 // The count of a part, and how many octets it has.
-#[derive(Drop)]
+#[derive(Clone, Copy)]
 struct Size {
     count: usize,
     octets: usize,
@@ -402,7 +404,7 @@ fn encode_run(units: &[u16], unit: usize, at: usize, n: usize, septets: &mut [u8
 }
 
 // How many of a run of septets are no escapes, each of which ends a unit, and whether the last is one.
-#[derive(Drop)]
+#[derive(Clone, Copy)]
 struct Run {
     codes: usize,
     half: bool,

@@ -1,4 +1,6 @@
 // Words, octets and units put into a lent buffer, one behind the other. Every program prints by these.
+#![tactic(auto)]
+
 ghost use Rattle.std.specs.Prelude.{◌≡◌, min, length};
 ghost use Rattle.printed.specs.Printing.{placed, end_of, octet_digits, unit_digits, distance};
 

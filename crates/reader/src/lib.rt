@@ -1,4 +1,6 @@
 // The whole reader: octets into text, and what their coding octet says.
+#![tactic(auto)]
+
 ghost use Rattle.std.specs.Prelude.{◌≡◌, false, length};
 ghost use Rattle.words.specs.Sizes.{is_old_page};
 ghost use Rattle.letters.specs.Reading.{read_as, text_answers, text_leaves};

@@ -1,4 +1,6 @@
 // The key of a data coding octet of a short message.
+#![tactic(auto)]
+
 ghost use Rattle.std.specs.Prelude.{◌≡◌, ◌<◌};
 ghost use Rattle.keys.specs.Keys.{notice_key, short_key};
 

@@ -1,4 +1,6 @@
 // Octets into UCS2 units under each service: high octet first, and the page of 41 units without its closing CRs. Units left without those, and stored.
+#![tactic(auto)]
+
 ghost use Rattle.std.specs.Prelude.{◌≡◌, ◌+◌, ◌*◌, ◌≤◌, ◌<◌, ◌++◌, length, take, drop, get_or};
 ghost use Rattle.lists.specs.Lists.{laid};
 ghost use Rattle.lists.specs.Closing.{without_closing};

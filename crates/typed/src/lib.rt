@@ -1,10 +1,12 @@
 // Numbers as they are typed: hexadecimal digits for octets and units, and decimal numbers. Every program reads its input by these.
+#![tactic(auto)]
+
 ghost use Rattle.std.specs.Prelude.{◌≡◌, ℕ, ◌+◌, ◌^◌, ◌≤◌, ◌<◌, leb, length, get_or, take, drop};
 ghost use Rattle.lists.specs.Lists.{first_place};
 ghost use Rattle.typed.specs.Spelling.{digit_of, digit_for, number_in, elements_answers, elements_leave, zero_led, number_answers};
 
 // What reading octets or units answers.
-#[derive(Drop)]
+#[derive(Clone, Copy)]
 pub enum Elements {
     // How many it stored at the front of the lent buffer.
     Done(usize),
@@ -13,7 +15,7 @@ pub enum Elements {
 }
 
 // What reading a number answers.
-#[derive(Drop)]
+#[derive(Clone, Copy)]
 pub enum Number {
     Is(u32),
     Nothing,

@@ -1,4 +1,6 @@
 // Which septet is none: the first of 128 or more.
+#![tactic(auto)]
+
 ghost use Rattle.std.specs.Prelude.{◌≡◌, ℕ, ◌≤◌, get_or};
 ghost use Rattle.lists.specs.Lists.{first_wide};
 

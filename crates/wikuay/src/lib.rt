@@ -1,5 +1,7 @@
 // The calls that C links: the library's own under plain names, with numbers for services, readings and refusals. No rule lives here.
 // A number that names no service is refused 8 before all else, and so is a reading with a number that names nothing.
+#![tactic(auto)]
+
 ghost use Rattle.std.specs.Prelude.{◌≡◌, ◌≤◌, length};
 ghost use Rattle.stream.specs.Answers.{packed_count};
 ghost use Rattle.demands.specs.Reports.{write_count};

@@ -8,7 +8,7 @@ use words::{NamedService, Refusal};
 
 // The record of a meter.
 #[repr(C)]
-#[derive(Drop)]
+#[derive(Clone, Copy)]
 pub struct MeterNumbers {
     pub service: u32,
     pub used: u32,
@@ -16,7 +16,7 @@ pub struct MeterNumbers {
 
 // What a call of a meter answers.
 #[repr(C)]
-#[derive(Drop)]
+#[derive(Clone, Copy)]
 pub struct MeterAnswer {
     pub refusal: u32,
     pub position: usize,
@@ -25,7 +25,7 @@ pub struct MeterAnswer {
 }
 
 // What the numbers of a record name.
-#[derive(Drop)]
+#[derive(Clone, Copy)]
 enum NamedMeter {
     Named(Meter),
     Unnamed,

@@ -1,4 +1,6 @@
 // The whole writer: text into octets under a service and a reading.
+#![tactic(auto)]
+
 ghost use Rattle.std.specs.Prelude.{◌≡◌, false, length};
 ghost use Rattle.words.specs.Sizes.{is_old_page};
 ghost use Rattle.coding.specs.Readings.{plain_in};
@@ -14,7 +16,7 @@ use stream::Packed;
 use words::{Filled, Refusal, Service};
 
 // How a text is coded under a service: the coding octet, and whether it is UCS2. Only settle and settle_plain make one.
-#[derive(Drop)]
+#[derive(Clone, Copy)]
 pub struct TextCoding {
     service: Service,
     octet: u8,
@@ -38,7 +40,7 @@ impl TextCoding {
 }
 
 // What settles how a text is written.
-#[derive(Drop)]
+#[derive(Clone, Copy)]
 pub enum Settled {
     Text(TextCoding),
     // Why none is written so.
@@ -46,7 +48,7 @@ pub enum Settled {
 }
 
 // How a broadcast page behind the letters of its language is coded: the coding octet, whether it is UCS2, the letters. Only code_message makes one.
-#[derive(Drop)]
+#[derive(Clone, Copy)]
 pub struct PageCoding {
     octet: u8,
     ucs2: bool,
@@ -54,7 +56,7 @@ pub struct PageCoding {
 }
 
 // What settles how one message is written.
-#[derive(Drop)]
+#[derive(Clone, Copy)]
 pub enum MessageCoding {
     // As a text by itself, or why none is written so.
     Text(Settled),
