@@ -71,15 +71,18 @@ def blocks(text):
 
 class Turn:
     def __init__(self, fn, own_clauses, said):
-        self.fn, self.own, self.said, self.ways = fn, own_clauses, said, set()
+        self.fn, self.own, self.said, self.ways, self.raw = fn, own_clauses, said, set(), False
+        self.pairs = False
 
     def walk(self, place, fields):
-        """From a place along the fields while they lead to places: how many were taken, and the place."""
-        n = 0
+        """From a place along the fields while they lead to places: how many were taken, the place, and how many steps they are today."""
+        n = steps = 0
         while n < len(fields) and fields[n] == "before" and place and self.fn.places[place]["parent"]:
+            arms = self.fn.places[place]["arms"]
             place = self.fn.places[place]["parent"]
             n += 1
-        return n, place
+            steps += not (arms and arms[1] == 2)
+        return n, place, steps
 
     def field(self, root, place, fields, text):
         """The path root.fields at a place, in the new names, for a root that is a record of that place."""
@@ -87,6 +90,9 @@ class Turn:
         if not fields:
             return root
         f, rest = fields[0], fields[1:]
+        pre = self.fn.d["pre"]
+        if f == "requires" and pre and rest and rest[0].isdigit() and int(rest[0]) < len(pre["fields"]):
+            rest = [pre["fields"][int(rest[0])], *rest[1:]]
         if f in ("args", "requires", "ranges", "utf8") or f == "well-formed":
             return ".".join([root, f.replace("-", "_"), *rest])
         if norm(f) == norm(p["step"][0]) or (p["step"][0] and norm(f) == norm(p["step"][1])):
@@ -98,6 +104,10 @@ class Turn:
             new = p["step"][1]
             if p["typed"] and rest[:1] in (["known"], ["told"], ["is"]):
                 self.say(f"typed? {text}")
+            if rest[:1] == ["new"] and len(rest) > 1 and rest[1].isdigit() and p["callee"]:
+                known = LENT.get(p["callee"].split("::")[-1], [])
+                if int(rest[1]) < len(known):
+                    rest = ["new", known[int(rest[1])], *rest[2:]]
             if rest[:1] == ["ensures"] and p["clauses"]:
                 names = p["clauses"]["fields"]
                 tail = rest[1:]
@@ -108,6 +118,8 @@ class Turn:
                     k = int(tail[0])
                     if k < len(names):
                         return ".".join([root, new, "ensures", names[k], *tail[1:]])
+                if not tail and len(names) > 1:
+                    return "(" + ", ".join(".".join([root, new, "ensures", x]) for x in names) + ")"
                 self.say(f"clauses {names} of {text}")
             if norm(f) in self.fn.loops and rest and rest[0] == "auto":
                 pass
@@ -122,6 +134,10 @@ class Turn:
             for s in self.fn.places[q]["step"]:
                 if norm(s) == norm(f):
                     return self.field(root, q, fields, text)
+        if re.fullmatch(r".*[a-z]2", f) and not text.endswith("~"):
+            for q in [place, *self.up(place)]:
+                if norm(self.fn.places[q]["step"][0]) == norm(f[:-1]):
+                    return self.field(root, q, [f[:-1], *rest], text + "~")
         self.say(f"unresolved {text} at {place}")
         return ".".join([root, *fields])
 
@@ -140,10 +156,10 @@ class Turn:
             root, fields = m[1], [f for f in m[2].split(".") if f]
             if root not in env:
                 return m[0]
-            expr, place = env[root]
-            n, at = self.walk(place, fields)
+            expr, place, view = env[root]
+            n, at, steps = self.walk(place, fields)
             if n == len(fields):
-                return expr + ".before" * n
+                return expr + ".before" * (steps + view)
             base = expr.split(".")[0]
             return self.field(base, at, fields[n:], m[0])
         return PATH.sub(one, text)
@@ -157,14 +173,14 @@ class Turn:
             for m in re.finditer(rf"\blet ({ID}) = ({ID})((?:\.{ID})*) in\s*", text):
                 name, root, fields = m[1], m[2], [f for f in m[3].split(".") if f]
                 if root in env:
-                    expr, place = env[root]
-                    n, at = self.walk(place, fields)
+                    expr, place, view = env[root]
+                    n, at, steps = self.walk(place, fields)
                     if n == len(fields):
                         found = m
                         break
             if not found:
                 break
-            env[name] = (expr + ".before" * n, at)
+            env[name] = (expr + ".before" * steps, at, view)
             text = text[: found.start()] + text[found.end():]
         return self.branches(self.paths(text, env))
 
@@ -269,6 +285,7 @@ def convert(crate, name, folder, fn, said):
     turn = Turn(fn, None, said)
     uses = [u for u in uses if ".Statement." not in u and not u.rstrip().endswith(" as tie")]
     answers, invariants = [], []
+    plain, every = [], []
     local = {}
     for comment, body in decls:
         first = body[0]
@@ -324,46 +341,94 @@ def convert(crate, name, folder, fn, said):
                 answers += comment + body + [""]
                 continue
             given, term = e[1].split(), e[2]
-            if re.fullmatch(r"\s*search rules\s*", term) or new in fn.d["settled"]:
+            if (re.fullmatch(r"\s*search rules\s*", term) and not unfold) or new in fn.d["settled"]:
                 continue
-            if len(given) > 1 and re.search(rf"(?<![\w'.-]){re.escape(given[1])}(?![\w'-])", term):
-                said.append(f"uses {given[1:]} in {new}")
+            more = [g for g in given[1:] if g != "κs"]
             asked = fn.d["asked"].get(old)
-            term = turn.term(term, {given[0]: (given[0], at)})
+            if "-requires" in new:
+                callee = max((f for f in WANTED if new.startswith((f + "-", f + "_"))), key=len, default=None)
+                asked = WANTED.get(callee)
+                if asked and len(asked) == 1 and not asked[0]:
+                    asked = None
+            if more and asked:
+                term = f"λ {' '.join(more)}. {term}"
+                more = []
+            term = turn.term(term, {given[0]: (given[0], at, int(LISTS.get(name.split('.')[-1], True)))})
             front, tail = lets(term)
             if asked:
                 if len(asked) == 1:
                     term = f"record {{ {asked[0]} = {term.strip()} }}" if "\n" not in term.strip() else f"record {{\n  {asked[0]} = {term.strip()};\n}}"
                 else:
                     parts = split_pair(tail)
+                    if parts and len(parts) > len(asked):
+                        parts = None
                     if parts and len(parts) == len(asked):
                         inner = "; ".join(f"{a} = {p}" for a, p in zip(asked, parts))
                         term = f"{front}\n    record {{ {inner} }}"
+                    elif asked == ["answer", "buffer"]:
+                        turn.pairs = True
+                        term = f"{front}\n    answered\n    ({tail.strip()})" if front.strip() else f"answered ({tail.strip()})"
                     else:
                         said.append(f"clauses {asked} at {new}")
-            answers += comment + [f"pub {new} : goal.{new}", *unfold, f"{new} {given[0]} =" + (" " if not term.startswith("\n") else "") + term, ""]
+            answers += comment + [f"pub {new} : goal.{new}", *unfold, " ".join([new, given[0], *more]) + " =" + (" " if not term.startswith("\n") else "") + term, ""]
             local[label] = new
             continue
         # a lemma of the file's own
         env = {}
         for v, at in re.findall(rf"\(({ID}) : tie\.({ID})[^)]*\)", whole):
             if norm(at) in fn.places:
-                env[v] = (v, norm(at))
+                env[v] = (v, norm(at), 0)
             else:
                 said.append(f"no place {at}")
         def place(m):
             p = fn.places.get(norm(m[1]))
-            return "goal." + p["new"] if p else m[0]
+            if not p:
+                return m[0]
+            turn.raw = True
+            loops = "".join(f" goal.the-invariant-{l[0]} goal.the-decreases-{l[0]}" for l in fn.loops.values())
+            claims = " tie.the-claims" if any(q["callee"] for q in fn.places.values()) else ""
+            handed = " tie.handed_clauses" if fn.d["asked"] or fn.d["pre"] or any(q["clauses"] for q in fn.places.values()) else ""
+            past = "Past-" if p["arms"] and p["arms"][1] == 2 else ""
+            return f"lts.{past}{p['old']}{claims} reads.Pre reads.Post{loops}{handed}"
         text = "\n".join(comment + ([signature] + unfold + [equation] if unfold else [whole]))
         if env:
             text = turn.term(text, env)
             text = re.sub(r"tie\.([\w-]+)(?: invariant-[\w-]+| decreases-[\w-]+)*", place, text)
         answers += [text, ""]
+        if not env:
+            plain.append((label, text))
+            every.append((label, text))
     goals = f"Rattle.{crate}.proofs.{name}"
+    moved, kept = [], []
+    if invariants:
+        # what the invariants cite stands with them
+        cited, again = "\n".join(invariants), True
+        while again:
+            again = False
+            for one in list(plain):
+                label, text = one
+                if re.search(rf"(?<![\w'.-]){re.escape(label)}(?![\w'-])", cited):
+                    plain.remove(one)
+                    moved.insert(0, one)
+                    cited += text
+                    again = True
+        if moved:
+            order = [l for l, _ in every]
+            moved.sort(key=lambda one: order.index(one[0]))
+            lines = []
+            for label, text in moved:
+                answers.remove(text)
+                marked = re.sub(rf"^((?:abbrev |unfoldable )?)(?!pub ){re.escape(label)} :", rf"\1pub {label} :", text, count=1, flags=re.M)
+                lines += [marked, ""]
+            invariants[:0] = lines
     if answers:
-        ways = []
+        ways = [f"use {goals}.{m} as {m.lower()}" for m in ("Lts", "Reads", "Tie")] if turn.raw else []
+        if moved:
+            ways.append(f"use {goals}.Invariants.{{{', '.join(l for l, _ in moved)}}}")
+        if turn.pairs:
+            ways.append("use Rattle.words.proofs.Clauses.{answered}")
         if turn.ways:
-            ways = [f"use {goals}.Goals.{{{', '.join(sorted(turn.ways))}}}"]
+            ways += [f"use {goals}.Goals.{{{', '.join(sorted(turn.ways))}}}"]
         text = "\n".join(head + uses + ways + [f"use {goals}.Goals as goal", ""] + answers).rstrip() + "\n"
         for old, new in local.items():
             pass
@@ -378,8 +443,31 @@ def convert(crate, name, folder, fn, said):
             pass
 
 
+WANTED = {}
+LENT = {}
+LISTS = {}
+
+
+def wanted(crate):
+    """The names of the `requires` of each function of a crate's source."""
+    for source in (crate / "src").glob("**/*.rt"):
+        for m in re.finditer(r"\bfn (\w+)(?:<[^>]*>)?\((?:[^()]|\([^()]*\))*\)[^{};]*?\n((?:\s+(?:requires|ensures)[^\n]*\n)+)", source.read_text()):
+            names = re.findall(r"^\s+requires ?(\w*) \{", m[2], re.M)
+            if names:
+                WANTED[m[1]] = names
+    for source in crate.parent.glob("*/src/**/*.rt"):
+        text = source.read_text()
+        for m in re.finditer(r"\bfn (\w+)(?:<[^>]*>)?\(((?:[^()]|\([^()]*\))*)\)", text):
+            params = [p.strip() for p in re.split(r",(?![^\[(]*[\])])", m[2]) if p.strip()]
+            LENT[m[1]] = ["self" if "self" in p.split(":")[0] else p.split(":")[0].strip() for p in params if "&" in p]
+            if source.parent.parent == crate or source.parent.parent.parent == crate:
+                end = re.compile(r"^ {0,4}\}$", re.M).search(text, m.end())
+                LISTS[m[1]] = "[" in m[2] or bool(re.search(r"= \[", text[m.end(): end.end() if end else None]))
+
+
 def main():
     crate, names = pathlib.Path(sys.argv[1]).resolve(), json.load(open(sys.argv[2]))
+    wanted(crate)
     only = sys.argv[4:] if len(sys.argv) > 3 else None
     for key, data in names.items():
         m = re.fullmatch(r"Rattle-(\w+)-proofs\.(.*)\.Lts", key)
