@@ -23,7 +23,7 @@ import sys
 QUALIFIERS = r'(?:(?:const|unsafe|async|extern(?: "[^"]*")?) )*'
 START = re.compile(rf"^(?P<indent> *)pub {QUALIFIERS}fn (?P<name>\w+)", re.M)
 IMPL = re.compile(r"^impl (?P<type>\w+)", re.M)
-# What is known only once a call has ended: neither side of an equation that says what it gives may lean on it.
+# What is known only once a call has ended: what an equation gives may not lean on it.
 AFTER = re.compile(r"(?<![\w.'])result(?![\w'])|\.new(?![\w'])")
 CLAUSE = re.compile(r"^\s*(?P<kind>requires|ensures)\b\*? *(?P<name>\w*) *\{(?P<body>.*?)\}\s*(?=^\s*(?:requires|ensures)\b|\Z)", re.M | re.S)
 GHOST = re.compile(r"^(?:pub )?ghost use (?P<path>[\w.]+)\.\{(?P<names>[^}]*)\};", re.M)
@@ -129,6 +129,11 @@ def paths_of(text):
     return {name.strip(): found["path"] for found in GHOST.finditer(text) for name in found["names"].split(",")}
 
 
+def one_line(code):
+    """Code as it stands on one line: a list that the layout spreads over lines has a comma at its end."""
+    return re.sub(r",? \)", ")", " ".join(code.split()).replace("( ", "("))
+
+
 def exported(library, archive):
     """What is wrong with the exports of an archive, in words, given the sources of its library and its own, by module."""
     wants = []
@@ -140,12 +145,13 @@ def exported(library, archive):
             if not export:
                 wants.append(f"{module}{name}: is not exported")
                 continue
-            if " ".join(export.replace('pub extern "C" fn', "pub fn", 1).split()) != " ".join(head.split()):
+            if one_line(export.replace('pub extern "C" fn', "pub fn", 1)) != one_line(head):
                 wants.append(f"{module}{name}: the export has other parameters or clauses than the call")
             named = ", ".join(one.split(":")[0] for one in parameters(re.split(r"^\s*(?:requires|ensures)\b", head, flags=re.M)[0]))
             whole = source[source.find(export) + len(export) :]
             path = module.replace(".", "::") + name
-            if " ".join(whole[: whole.find("\n}\n")].split()) != f"{{ LIBRARY::{path}({named})" or not re.search(rf"^#\[unsafe\(no_mangle\)\]\n{re.escape(export)}", source, re.M):
+            named_so = re.search(rf"^#\[unsafe\(no_mangle\)\]\n{re.escape(export)}", source, re.M)
+            if not named_so or one_line(whole[: whole.find("\n}\n")]) != f"{{ LIBRARY::{path}({named})":
                 wants.append(f"{module}{name}: the export is not that call alone")
             ours, theirs = paths_of(source), paths_of(text)
             other = [one for one in re.findall(r"[^\s(){}]+", head.partition("ensures")[2]) if ours.get(one) != theirs.get(one)]
@@ -224,6 +230,7 @@ def self_test():
     export = call.replace("pub fn", '#[unsafe(no_mangle)]\npub extern "C" fn').replace("    n\n", "    LIBRARY::fill(n)\n")
     for fault, text, expected in (
         ("nothing of an export", export, 0),
+        ("nothing of an export in another layout", export.replace("(n: usize)", "(\n    n: usize,\n)").replace("fill(n)", "fill(\n        n,\n    )"), 0),
         ("no export", "", 1),
         ("an export of another name", export.replace("fn fill(", "fn fills("), 2),
         ("an export with a weaker clause", export.replace("{ result ≡ fills n }", "{ ⊤ }"), 1),
