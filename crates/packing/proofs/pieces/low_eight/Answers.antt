@@ -7,4 +7,4 @@ use Rattle.packing.proofs.pieces.low_eight.Goals as goal
 pub returns : goal.returns
 returns c = c.squeeze.ensures.answer
     ∙ ap together c.join_eight.ensures
-    ∙ together-part c.args.septets.now c.args.at (λ k. (c.shared_slice_known-1.given k).fits) c.requires
+    ∙ together-part c.args.septets.now c.args.at (λ k. (c.type_inv.septets k).fits) c.requires

@@ -56,7 +56,7 @@ returns-then-done-octets c =
     let t : List ℕ = low_of 7 s in
     let all : List ℕ = with_cr a.cr t in
     let octets : c.octets_for-octets.result ≡ octets_for (length all) = octets-taken t a.cr (size s) c.with_cr.ensures c.octets_for-octets.ensures.answer in
-    let known : Below 256 s = λ k. (c.shared_slice_known-1.given k).fits in
+    let known : Below 256 s = λ k. (c.type_inv.septets k).fits in
     let rest : List ℕ = drop (8 * g) s in
     let v =
     c.squeeze-v.ensures.answer

@@ -51,7 +51,7 @@ pub returns-then-rest-gt0 : goal.returns-then-rest-gt0
 returns-then-rest-gt0 c =
     let a = c.args in
     let o : List ℕ = a.octets.now in
-    let known : Below 256 o = λ k. (c.shared_slice_known-1.given k).fits in
+    let known : Below 256 o = λ k. (c.type_inv.octets k).fits in
     let n : ℕ = a.n in
     let g : ℕ = n / 8 in
     let r : ℕ = n % 8 in
@@ -68,7 +68,7 @@ unfolding digits
 returns-else-rest-gt0 c =
     let a = c.args in
     let o : List ℕ = a.octets.now in
-    let known : Below 256 o = λ k. (c.shared_slice_known-1.given k).fits in
+    let known : Below 256 o = λ k. (c.type_inv.octets k).fits in
     let g : ℕ = a.n / 8 in
     let done : List ℕ = digits 128 (8 * g) (value 256 (take (7 * g) o)) in
     let none : 0 ≡ a.n % 8 = omega arith in
