@@ -1,11 +1,11 @@
 -- The octets of the units passed are laid over the front of out, two a turn.
-use lib.ListN.{length-set, length, get_or, drop, set, drop_of_length-le}
+use lib.ListN.{length, get_or, drop, set, drop_of_length-le}
 use Prim.Native.Nat.{ℕ, ◌≤◌, ◌+◌, ◌*◌, ◌/◌, ◌%◌}
 use mathlib.Core.Path.{◌≡◌, sym, ap}
 use mathlib.Core.List.{List}
 use native.Mathlib.Omega.{arith}
-use lib.Bits.{and_mask, mask_lt}
-use Rattle.lists.proofs.Laid.{Laying, lay-none, lay-left, lay-one, lay-moved, lay-end}
+use lib.Bits.{and_mask}
+use Rattle.lists.proofs.Laid.{Laying, lay-left, lay-one, lay-moved, lay-end}
 use Rattle.stream.specs.Ucs2.{unit_octets}
 use Rattle.stream.proofs.UnitOctets.{unit-octets-length, unit-octets-next}
 use Rattle.stream.proofs.Given.{given-short, given-done}
@@ -17,22 +17,6 @@ pub returns-then-out-n : goal.returns-then-out-n
 returns-then-out-n c = let a = c.args in
     answered
     (given-short (unit_octets a.units.now) a.out.now (omega (arith, unit-octets-length a.units.now)))
-
-pub loop-i-init : goal.loop-i-init
-loop-i-init c = let a = c.args in
-    (search rules, lay-none a.out.now (unit_octets a.units.now))
-
-pub overflow_cast-out : goal.overflow_cast-out
-overflow_cast-out c = record { fits = omega (arith, (c.shared_slice_known-1.given c.loop-i.i).fits) }
-
-pub bounds-out-i : goal.bounds-out-i
-bounds-out-i c = omega (arith, c.loop-i.invariant.1.long)
-
-pub overflow_cast-out-in-loop-i : goal.overflow_cast-out-in-loop-i
-overflow_cast-out-in-loop-i c = record { fits = mask_lt (get_or c.args.units.now c.loop-i.i 0) 8 }
-
-pub bounds-out-i-in-loop-i : goal.bounds-out-i-in-loop-i
-bounds-out-i-in-loop-i c = simp length-set (omega (arith, c.loop-i.invariant.1.long))
 
 pub loop-i-preserved : goal.loop-i-preserved
 loop-i-preserved c = let a = c.args in

@@ -34,15 +34,6 @@ returns-then-most_units-units c = let a = c.args in
     answered
     (simp (new c.before.before.before, lt-ltb _ _ over) (refl, refl))
 
-pub put_units-requires : goal.put_units-requires
-put_units-requires c = omega (arith, c.most_units.ensures.answer, ap most_units c.in-ShortMessage.is)
-
-pub put_page-requires : goal.put_page-requires
-put_page-requires c = omega (arith, c.most_units.ensures.answer, ap most_units c.in-Broadcast.is)
-
-pub put_units-requires-in-Ussd : goal.put_units-requires-in-Ussd
-put_units-requires-in-Ussd c = omega (arith, c.most_units.ensures.answer, ap most_units c.in-Ussd.is)
-
 pub returns-in-ShortMessage : goal.returns-in-ShortMessage
 returns-in-ShortMessage c = let a = c.args in
     let e = c.in-ShortMessage.is in
@@ -63,7 +54,3 @@ returns-in-Ussd c = let a = c.args in
     let most : length a.units.now ≤ 80 = omega (arith, c.most_units.ensures.answer, ap most_units e) in
     answered
     (rw e (to-octets-passed Ussd a.units.now a.out.now refl most (c.put_units-in-Ussd.ensures.answer, c.put_units-in-Ussd.ensures.buffer)))
-
-pub returns-in-OldPage : goal.returns-in-OldPage
-unfolding to_octets_rules to_octets_answers to_octets_leaves verdict
-returns-in-OldPage c = answered (rw c.in-OldPage.is (refl, refl))

@@ -5,7 +5,7 @@ use mathlib.Core.List.{List}
 use native.Mathlib.Omega.{arith}
 use lib.ListN.{length, take, drop_of_length-le}
 use lib.Seq.{length-take-le}
-use Rattle.lists.proofs.Laid.{lay-none, lay-front, lay-end}
+use Rattle.lists.proofs.Laid.{lay-front, lay-end}
 use Rattle.stream.specs.Ucs2.{octet_units}
 use Rattle.stream.proofs.UnitOctets.{octet-units-length}
 use borrow.Author.Rules.{rules}
@@ -17,13 +17,6 @@ use Rattle.to_units.proofs.get_few.Goals as goal
 -- there are n units
 within : (c : lts.Start tie.the-claims reads.Pre reads.Post goal.the-invariant-loop-i goal.the-decreases-loop-i) → c.args.n ≤ length (octet_units c.args.octets.now)
 within c = omega (arith, octet-units-length c.args.octets.now, c.requires)
-
-pub loop-i-init : goal.loop-i-init
-loop-i-init c = let a = c.args in
-    (search rules, lay-none a.out.now (take a.n (octet_units a.octets.now)))
-
-pub bounds-out-i : goal.bounds-out-i
-bounds-out-i c = omega (arith, c.loop-i.invariant.1.long, c.requires)
 
 pub loop-i-preserved : goal.loop-i-preserved
 loop-i-preserved c = (search rules, lay-front (octet_units c.args.octets.now) (within c.before.before.before.before.before.before) (search rules) c.loop-i.invariant.1 (search rules) c.unit_at.ensures)

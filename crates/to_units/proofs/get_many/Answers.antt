@@ -56,8 +56,3 @@ returns-then-at-n c = let n : ℕ = c.args.n in
     ∙ ap (λ (l : List ℕ). take (n - 8) l ++ take 8 (drop (n - 8) us) ++ drop (n - 8 + 8) l) c.loop-at.invariant.1
     ∙ laid-over us d (n - 8) 8 c.loop-at.at (omega (arith, c.loop-at-test.false)) (omega (arith, c.loop-at.invariant.0)) (omega (arith, within c.before.before.before.before.before.before.before.before.before.before))
     ∙ ap (λ (i : ℕ). laid (take i us) d) whole
-
-pub returns-else-at-n : goal.returns-else-at-n
-returns-else-at-n c = let a = c.args in
-    let done : c.loop-at.at ≡ a.n = search rules in
-    c.loop-at.invariant.1 ∙ ap (λ (i : ℕ). laid (take i (octet_units a.octets.now)) a.out.now) done

@@ -1,11 +1,8 @@
 -- The units from n on are CRs, so that the first n decide what is left.
 -- Assumes nothing.
-use Rattle.lists.proofs.Closing.{filled-end, filled-down, filled-here, filled-whole}
+use Rattle.lists.proofs.Closing.{filled-down, filled-here, filled-whole}
 use borrow.Author.Rules.{rules}
 use Rattle.to_units.proofs.kept.Goals as goal
-
-pub loop-n-init : goal.loop-n-init
-loop-n-init c = (search rules, filled-end 13 c.args.units.now)
 
 pub returns-then-units-n-ne13 : goal.returns-then-units-n-ne13
 returns-then-units-n-ne13 c = record {

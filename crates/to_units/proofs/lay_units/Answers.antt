@@ -6,7 +6,7 @@ use native.Mathlib.Omega.{arith}
 use lib.ListN.{length, take, drop_of_length-le}
 use lib.Seq.{take_all, length-take-le}
 use Rattle.lists.specs.Lists.{laid}
-use Rattle.lists.proofs.Laid.{lay-none, lay-front, lay-end}
+use Rattle.lists.proofs.Laid.{lay-front, lay-end}
 use Rattle.stream.specs.Ucs2.{octet_units}
 use Rattle.stream.proofs.UnitOctets.{octet-units-length}
 use borrow.Author.Rules.{rules}
@@ -24,21 +24,6 @@ many c =
     let us : List ℕ = octet_units a.octets.now in
     let held = octet-units-length a.octets.now in
     elim c.if-out-held.branch [ then-out-held w ↦ (omega (arith, held, w.n-is, w.if-out-held.true), omega (arith, w.n-is), ap (λ (n : ℕ). take n us) w.n-is) | else-out-held w ↦ (omega (arith, held, w.n-is), omega (arith, w.n-is, w.if-out-held.false), take_all c.if-out-held.n us (omega (arith, held, w.n-is)) ∙ sym (take_all (length a.out.now) us (omega (arith, held, w.if-out-held.false)))) ]
-
-pub loop-i-init : goal.loop-i-init
-loop-i-init c = let a = c.args in
-    (search rules, lay-none a.out.now (take c.if-out-held.n (octet_units a.octets.now)))
-
-pub unit_at-requires : goal.unit_at-requires
-unit_at-requires c = let m = many c.before.before.before in
-    omega (arith, m, octet-units-length c.args.octets.now)
-
-pub bounds-out-i : goal.bounds-out-i
-bounds-out-i c = let m = many c.before.before.before.before in
-    omega (arith, m, c.loop-i.invariant.1.long)
-
-pub overflow_add-i : goal.overflow_add-i
-overflow_add-i c = let m = many c.before.before.before.before in search rules
 
 pub loop-i-preserved : goal.loop-i-preserved
 loop-i-preserved c = let m = many c.before.before.before.before in

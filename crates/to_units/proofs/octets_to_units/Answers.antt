@@ -14,7 +14,7 @@ use Rattle.stream.specs.Ucs2.{octet_units}
 use Rattle.stream.specs.UnitCalls.{units_fit, to_units_rules, to_units_answers, to_units_leaves}
 use Rattle.stream.proofs.Given.{Gives}
 use Rattle.stream.proofs.UnitOctets.{octet-units-length}
-use Rattle.stream.proofs.Calls.{to-units-passed, fit-units}
+use Rattle.stream.proofs.Calls.{to-units-passed}
 use Rattle.to_units.proofs.octets_to_units.Lts as lts
 use Rattle.to_units.proofs.octets_to_units.Reads as reads
 use Rattle.to_units.proofs.octets_to_units.Tie as tie
@@ -38,10 +38,6 @@ fit c service e =
 -- all units that the octets hold
 all : (o : List ℕ) → take (length o / 2) (octet_units o) ≡ octet_units o
 all o = take_all (length o / 2) (octet_units o) (omega (arith, octet-units-length o))
-
-pub page_kept-requires : goal.page_kept-requires
-page_kept-requires c = let a = c.args in
-    fit-units (length a.octets.now) a.count (fit c.before.before Broadcast c.in-Broadcast.is)
 
 pub get_units-requires-in-Broadcast : goal.get_units-requires-in-Broadcast
 get_units-requires-in-Broadcast c = let o : List ℕ = c.args.octets.now in
@@ -71,7 +67,3 @@ returns-in-Ussd c = let a = c.args in
     (rw e
     (to-units-passed Ussd a.octets.now a.out.now a.count (fit c.before.before.before.before.before.before Ussd e)
     (subst (λ (us : List ℕ). Gives us a.out.now c.get_units-in-Ussd.result c.get_units-in-Ussd.new.out) (all a.octets.now) (c.get_units-in-Ussd.ensures.answer, c.get_units-in-Ussd.ensures.buffer))))
-
-pub returns-in-OldPage : goal.returns-in-OldPage
-unfolding to_units_rules to_units_answers to_units_leaves verdict
-returns-in-OldPage c = answered (rw c.in-OldPage.is (refl, refl))

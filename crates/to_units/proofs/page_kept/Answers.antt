@@ -15,9 +15,6 @@ loop-n-init c = let o : List ℕ = c.args.octets.now in
     let size : length (octet_units o) ≡ 41 = omega (arith, octet-units-length o) in
     (omega arith, size, subst (FilledFrom 13 (octet_units o)) size (filled-end 13 (octet_units o)))
 
-pub unit_at-requires : goal.unit_at-requires
-unit_at-requires c = omega arith
-
 pub returns-then-unit_at-ne13 : goal.returns-then-unit_at-ne13
 returns-then-unit_at-ne13 c = filled-here 13 (octet_units c.args.octets.now) c.loop-n.n c.loop-n.invariant.2 (search rules) (search rules) (λ e. c.if-unit_at-ne13.true (c.unit_at.ensures ∙ e))
 

@@ -8,7 +8,6 @@ use mathlib.Core.Logic.{⊎_elim}
 use Prim.Native.Nat.{ℕ, ◌+◌, ◌<◌}
 use native.Mathlib.Omega.{arith}
 use lib.ListN.{length, get_or, set}
-use borrow.Author.Rules.{rules}
 use Rattle.letters.specs.Reading.{shown, after_escape, old_unit}
 use Rattle.letters.specs.Inner.{first_read, Stepped}
 use Rattle.letters.proofs.Septets.{step-shown, step-old, step-last, step-pair, stepped-first}
@@ -46,10 +45,6 @@ by-table c =
     step-shown c.args.old s i within c.shown_unit.result c.if-old.mark (marked c.before.before.before) c.if-code-mark.true
     (c.shown_unit.ensures.answer ∙ ap shown (masked s i c.requires.i_in_bounds.1 within))
 
-pub offset_bounds-out-n : goal.offset_bounds-out-n
-offset_bounds-out-n c = let fits : c.args.n < length c.args.out.now = room c.before.before.before.before.before.before.before (by-table c.before) in
-    search rules
-
 pub bounds-out-n : goal.bounds-out-n
 bounds-out-n c = room c.before.before.before.before.before.before.before (by-table c.before)
 
@@ -68,10 +63,6 @@ alone c =
     (λ w. rw w.0 (step-last s i within 0x20 (mark ∙ ap mark_of w.0) (omega (arith, c.if-pairs-next.true, w.1, within)) refl))
     c.requires.fact
 
-pub offset_bounds-out-n-then-pairs-next : goal.offset_bounds-out-n-then-pairs-next
-offset_bounds-out-n-then-pairs-next c = let fits : c.args.n < length c.args.out.now = room c.before.before.before.before.before.before.before (alone c.before) in
-    search rules
-
 pub bounds-out-n-then-pairs-next : goal.bounds-out-n-then-pairs-next
 bounds-out-n-then-pairs-next c = room c.before.before.before.before.before.before.before (alone c.before)
 
@@ -85,9 +76,6 @@ paired : (c : lts.Else3 tie.the-claims reads.Pre reads.Post tie.handed_clauses)
 paired c =
     ⊎_elim (λ w. absurd (omega (arith, w.1, c.if-pairs-next.false))) (λ w. (w.0, omega (arith, w.1, c.if-pairs-next.false))) c.requires.fact
 
-pub bounds-septets-next : goal.bounds-septets-next
-bounds-septets-next c = (paired c.before.before).1
-
 pair : (c : lts.After-after_escape tie.the-claims reads.Pre reads.Post tie.handed_clauses)
     → Stepped c.args.old c.args.septets.now
     c.args.i c.after_escape.result (c.args.i + 1 + 1)
@@ -98,10 +86,6 @@ pair c =
     rw both.0
     (step-pair s i c.requires.i_in_bounds.0 c.after_escape.result (c.if-code-mark.false ∙ marked c.before.before.before.before.before ∙ ap mark_of both.0) both.1
     (c.after_escape.ensures.answer ∙ ap after_escape (masked s (i + 1) c.requires.i_in_bounds.1 both.1)))
-
-pub offset_bounds-out-n-2 : goal.offset_bounds-out-n-2
-offset_bounds-out-n-2 c = let fits : c.args.n < length c.args.out.now = room c.before.before.before.before.before.before.before.before.before (pair c.before) in
-    search rules
 
 pub bounds-out-n-2 : goal.bounds-out-n-2
 bounds-out-n-2 c = room c.before.before.before.before.before.before.before.before.before (pair c.before)
