@@ -8,21 +8,10 @@ use lib.ListN.{get_or}
 use Rattle.lists.proofs.Below.{Below}
 use Rattle.fields.specs.declared.Letters.{Letters}
 use Rattle.lettered.proofs.Bits.{letters-unpacked}
-use borrow.Author.Rules.{rules}
-use Rattle.lettering.proofs.letters_in.Statement.{statement}
-use Rattle.lettering.proofs.letters_in.Tie as tie
+use Rattle.lettering.proofs.letters_in.Goals as goal
 
-returns : tie.Need-returns
-returns c = λ two. absurd (omega (arith, c.if1.true))
-
-shared-slice-read-t5 : tie.Need-shared-slice-read-t5
-shared-slice-read-t5 c = search rules
-
-shared-slice-read-t8 : tie.Need-shared-slice-read-t8
-shared-slice-read-t8 c = search rules
-
-shared-slice-read-t11 : tie.Need-shared-slice-read-t11
-shared-slice-read-t11 c = search rules
+pub returns-then-octets-lt2 : goal.returns-then-octets-lt2
+returns-then-octets-lt2 c = λ two. absurd (omega (arith, c.if-octets-lt2.true))
 
 -- the highest bit of an octet below the six lowest of the next
 joined : (x y : ℕ) → x < 256 → bit_or (x / 2 ^ 7) (bit_and y 63 * 2 ^ 1 % 2 ^ 8) ≡ x / 128 + 2 * (y % 64)
@@ -37,13 +26,8 @@ joined x y h =
 abbrev made : ℕ → ℕ → Letters
 made x y = record { first = x; second = y }
 
-returns-2 : tie.Need-returns-2
-returns-2 c = λ two.
-    let o : List ℕ = c.before.before.before.before.args.octets.now in
-    let low : Below 256 o = λ k. (c.before.before.shared-slice-known.given k).fits in
+pub returns : goal.returns
+returns c = λ two.
+    let o : List ℕ = c.args.octets.now in
+    let low : Below 256 o = λ k. (c.type_inv.octets k).fits in
     ap₂ made (and_mask (get_or o 0 0) 7) (joined (get_or o 0 0) (get_or o 1 0) (low 0)) ∙ sym (letters-unpacked o low)
-
-pub letters-in-spec : {M : Type 1} → statement M
-letters-in-spec =
-    tie.close
-    (tie.spec returns shared-slice-read-t5 shared-slice-read-t8 shared-slice-read-t11 returns-2)

@@ -1,0 +1,45 @@
+-- All septets of the page fill the array: the third is the CR, and the 90 behind it, without closing CRs, are read. Assumes nothing.
+use Prim.Native.Nat.{ℕ, ◌+◌, ◌-◌, ◌≤◌}
+use mathlib.Core.Path.{◌≡◌, refl, sym, ap, ◌∙◌}
+use mathlib.Core.List.{List}
+use native.Mathlib.Omega.{arith}
+use lib.ListN.{take, drop, get_or, replicate}
+use Rattle.words.specs.declared.Service.TheVariants.{Broadcast}
+use Rattle.stream.specs.Stream.{unpacked}
+use Rattle.stream.specs.ArrayCalls.{kept_count}
+use Rattle.lettering.specs.Inner.{behind_letters}
+use Rattle.lettering.proofs.Steps.{all-unpacked, read-open, read-text}
+use Rattle.lettering.proofs.Arrays.{take-few, kept-few, kept-text}
+use Rattle.words.proofs.Clauses.{answered}
+use Rattle.lettering.proofs.read_septets.Goals as goal
+
+-- no more are left than the 90 that are looked at
+few : (s : List ℕ) {n : ℕ} → n ≡ kept_count Broadcast (take 90 s) → n ≤ 90
+few s {n} e = kept-few n 90 _ e (take-few 90 s)
+
+pub overflow_add-n : goal.overflow_add-n
+overflow_add-n c = record { fits = omega (arith, few (drop 3 c.unpack_all.new.out) c.text_length-n.ensures.answer) }
+
+pub slice_bounds-septets_to_text-end : goal.slice_bounds-septets_to_text-end
+slice_bounds-septets_to_text-end c = omega (arith, few (drop 3 c.unpack_all.new.out) c.text_length-n.ensures.answer)
+
+pub returns-then-septets-eq13 : goal.returns-then-septets-eq13
+returns-then-septets-eq13 c =
+    let a = c.args in
+    let o : List ℕ = a.octets.now in
+    let n : ℕ = c.text_length-n.result in
+    -- the array holds the septets of the page
+    let array : List ℕ = c.unpack_all.new.out in
+    let all : array ≡ unpacked 93 o = c.unpack_all.ensures.buffer ∙ all-unpacked o (replicate 93 0) c.requires.0 refl in
+    let r =
+    read-text a.letters o a.out.now c.requires.0 c.requires.1 c.requires.2 (λ k. (c.type_inv.octets k).fits)
+    (sym (ap (λ (s : List ℕ). get_or s 2 0) all) ∙ c.if-septets-eq13.true) (take (3 + n - 3) (drop 3 array)) (kept-text o array n all c.text_length-n.ensures.answer) in
+    record { answer = c.behind.ensures ∙ ap (behind_letters a.letters) c.septets_to_text.ensures.answer ∙ r.0; buffer = c.septets_to_text.ensures.buffer ∙ r.1 }
+
+pub returns : goal.returns
+returns c =
+    let a = c.args in
+    let all : c.unpack_all.new.out ≡ unpacked 93 a.octets.now = c.unpack_all.ensures.buffer ∙ all-unpacked a.octets.now (replicate 93 0) c.requires.0 refl in
+    answered
+    (read-open a.letters a.octets.now a.out.now c.requires.0 c.requires.1 c.requires.2 (λ k. (c.type_inv.octets k).fits)
+    (λ e. c.if-septets-eq13.false (ap (λ (s : List ℕ). get_or s 2 0) all ∙ e)))
