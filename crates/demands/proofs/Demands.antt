@@ -32,9 +32,9 @@ use Rattle.demands.specs.declared.MessageRead.TheVariants as read
 use Rattle.demands.specs.declared.MessageWritten.{MessageWritten}
 use Rattle.demands.specs.declared.MessageWritten.TheVariants as written
 use Rattle.demands.specs.MessageRead.{fits_reading, text_of_message}
-use Rattle.demands.specs.MessageWritten.{message_octets, message_count, write_answers, write_leaves}
+use Rattle.demands.specs.MessageWritten.{message_octets, message_count, write_answers}
 use Rattle.demands.specs.Reports.{write_number, write_written, write_count, write_coding}
-use Rattle.demands.specs.Demands.{HoldsText, Writable, Accepted, sent, sent_count, sent_coding, Comes, FilledByCr, OneCrMore}
+use Rattle.demands.specs.Demands.{Writable, Accepted, sent, sent_count, sent_coding, Comes, FilledByCr, OneCrMore}
 use Rattle.demands.proofs.Accepting.{write-accepts, write-accepted, read-accepts}
 use Rattle.demands.proofs.Octets as octets
 

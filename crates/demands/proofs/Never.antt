@@ -10,7 +10,6 @@ use mathlib.Core.Logic.{◌⊎◌, inl, inr}
 use Prim.Native.Nat.{ℕ, ◌<◌}
 use native.Mathlib.Omega.{arith}
 use lib.Dec.{T, ltb}
-use lib.ListN.{length}
 use Rattle.lists.specs.Bits.{bit_of, gather, bits_of}
 use Rattle.words.specs.declared.Service.TheVariants.{ShortMessage, OldPage}
 use Rattle.words.specs.declared.Refusal.{Refusal}
@@ -20,13 +19,13 @@ use Rattle.words.specs.Judging.{Rule, when, Verdict, refused, accepted, verdict}
 use Rattle.lists.proofs.Tests.{both, both_left, both_right, every_below, every-below}
 use Rattle.words.proofs.Judging.{settle-given}
 use Rattle.coding.specs.declared.Reading.{Reading}
-use Rattle.coding.specs.Readings.{unmentioned, reserved_reading, without_letters}
+use Rattle.coding.specs.Readings.{without_letters}
 use Rattle.fields.specs.Numbers.{alphabet_no}
 use Rattle.coding.specs.OctetRead.{class_in, discard_in, store_in, general_reading, notice_reading, last_reading, read_short, octet_rules}
 use Rattle.coding.specs.declared.OctetWritten.TheVariants as octet-written
 use Rattle.coding.specs.OctetWritten.{smallest, write_rules as alone_rules}
 use Rattle.coding.specs.LanguageLetters.{coding_rules, coding_writes}
-use Rattle.coding.specs.Holding.{is_ucs2, is_data, text_rules}
+use Rattle.coding.specs.Holding.{is_data, text_rules}
 use Rattle.coding.proofs.TextOctet.{coding-written}
 use Rattle.coding.proofs.Theorems.{settled, write_read}
 use Rattle.demands.specs.declared.MessageRead.TheVariants as read

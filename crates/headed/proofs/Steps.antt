@@ -6,14 +6,14 @@
 --   scan_begins, scan-lone, scan-past, scan-other, scan-wrong, scan-numbers, scan-ends   one step of it, by what stands at the place
 --   header-short, header-body   what a header is read as, by its length octet
 --   header-fits, header-told, header-refusal   what an answer tells of the octets
-use mathlib.Core.Path.{◌≡◌, refl, sym, ap, ap₂, ◌∙◌, subst}
-use mathlib.Core.Bool.{Bool, true, false, not, cond, ◌&&◌, ◌||◌}
+use mathlib.Core.Path.{◌≡◌, refl, sym, ap, ◌∙◌}
+use mathlib.Core.Bool.{Bool, true, false, not}
 use mathlib.Core.List.{List, [], ◌∷◌}
 use Prim.Native.Nat.{ℕ, zero, suc, ◌+◌, ◌-◌, ◌≤◌, ◌<◌}
 use native.Mathlib.Numerals.{add-one}
 use native.Mathlib.Omega.{arith}
 use borrow.Author.Tests.{lt-ltb, le-ltb, le-leb, lt-leb, leb-true, eq-eqb, ne_eqb}
-use lib.Dec.{ltb, leb, eqb}
+use lib.Dec.{ltb, leb}
 use lib.ListN.{length, get_or, take, drop, length-drop, drop_of_length-le}
 use lib.Seq.{drop-cons, drop-drop, length-take-le, get_or-take, get_or-drop}
 use Rattle.words.specs.declared.Refusal.{Refusal}
@@ -23,7 +23,6 @@ use Rattle.lists.proofs.Tests.{and_left}
 use Rattle.headed.specs.declared.Numbers.{Numbers}
 use Rattle.headed.specs.declared.Concatenation.{Concatenation}
 use Rattle.headed.specs.declared.Concatenation.TheVariants.{Absent, Present}
-use Rattle.headed.specs.declared.HeaderRead.{HeaderRead}
 use Rattle.headed.specs.declared.HeaderRead.TheVariants.{Done, Refused}
 use Rattle.headed.specs.Header.{Element, Elements, broken, whole, before, elements_up_to, elements_of, concatenation, numbers_of, last_numbers, wrong_length, header_size, header_body, right_header, header_numbers, header_rules, header_reads}
 use Rattle.headed.specs.Inner.{body_reads}

@@ -2,7 +2,7 @@
 -- Own rule: none. Assumes nothing.
 --   found_as some n      == what was found: the numbers n where some is true, or none
 --   body_reads n found e == what reading elements answers, of a header of n octets, where so much was found before them
-use Rattle.std.specs.Prelude.{ℕ, Bool, true, false, List, [], ◌∷◌}
+use Rattle.std.specs.Prelude.{ℕ, Bool, true, false, [], ◌∷◌}
 use Rattle.words.specs.declared.Refusal.TheVariants.{WrongHeader}
 use Rattle.words.specs.Judging.{when, verdict, settle}
 use Rattle.headed.specs.declared.Numbers.{Numbers}

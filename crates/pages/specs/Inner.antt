@@ -8,7 +8,7 @@
 --   joined_as h r answer       == the answer of joining text, with the header h and the reading r
 --   wrong_order                == the order of pages that are wrong
 --   Places o places           == the place of each page stands in the table at its number, one more than it is
-use Rattle.std.specs.Prelude.{ℕ, suc, ◌<◌, ◌≤◌, ◌≡◌, Bool, false, List, [], ◌∷◌, ◌++◌, ltb, length, get_or, replicate}
+use Rattle.std.specs.Prelude.{ℕ, suc, ◌≤◌, ◌≡◌, Bool, false, List, [], ◌∷◌, ◌++◌, ltb, length, get_or, replicate}
 use Rattle.words.specs.declared.Filled.{Filled}
 use Rattle.words.specs.declared.Filled.TheVariants as filled
 use Rattle.words.specs.declared.Refusal.{Refusal}

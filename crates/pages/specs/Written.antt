@@ -20,7 +20,6 @@ use Rattle.coding.specs.LanguageLetters.{coding_rules}
 use Rattle.coding.specs.Holding.{is_ucs2, text_rules}
 use Rattle.letters.specs.Writing.{first_unlisted}
 use Rattle.demands.specs.MessageWritten.{not_codable}
-use Rattle.pages.specs.declared.Header.{Header}
 use Rattle.pages.specs.declared.Counted.{Counted}
 use Rattle.pages.specs.declared.Counted.TheVariants as counted
 use Rattle.pages.specs.declared.Built.{Built}

@@ -23,7 +23,7 @@ use native.Mathlib.Numerals.{add-one}
 use native.Mathlib.Omega.{arith}
 use borrow.Author.Tests.{lt-ltb, le-ltb, le-leb, lt-leb, leb-true, leb-false, ltb-true, ltb-false, eq-eqb}
 use lib.Dec.{lit<, ltb, leb, eqb}
-use lib.ListN.{length, get_or, take, drop, set, length-set, length-append, length-drop, drop_of_length-le}
+use lib.ListN.{length, get_or, take, drop, set, length-set, length-append, length-drop}
 use lib.Seq.{take_all, take-take, drop_at, drop-cons, take-add, drop-drop, drop-set-lt, length-take-le, get_or-take, get_or-drop, get_or-set_same}
 use Rattle.words.specs.declared.Service.TheVariants.{ShortMessage}
 use Rattle.words.specs.declared.Refusal.{Refusal}

@@ -11,20 +11,19 @@
 --   holding-over, holding-sum, holding-room, sized-over, sized-done, plan-units, plan-counted, plan-stopped   how the code counts
 use mathlib.Core.Path.{◌≡◌, refl, sym, ap, ap₂, ◌∙◌, subst}
 use mathlib.Core.Bool.{Bool, true, false, cond}
-use mathlib.Core.List.{List, [], ◌∷◌, ◌++◌}
+use mathlib.Core.List.{List, [], ◌∷◌}
 use mathlib.Core.Logic.{◌⊎◌, inl, inr, ⊎_elim}
 use Prim.Native.Nat.{ℕ, zero, suc, ◌+◌, ◌-◌, ◌*◌, ◌/◌, ◌≤◌, ◌<◌}
-use native.Mathlib.Nat.{mul-zero, mul-suc, mul-le-mul_left}
+use native.Mathlib.Nat.{mul-zero, mul-suc}
 use native.Mathlib.Decide.{dec_le}
-use native.Mathlib.Numerals.{add-one}
 use native.Mathlib.Omega.{arith}
-use borrow.Author.Tests.{lt-ltb, le-ltb, ltb-false, eq-eqb, ne_eqb}
-use lib.Dec.{ltb, eqb}
-use lib.ListN.{length, take, drop, length-take, length-drop}
-use lib.Seq.{take-take, take_all, length-take-le}
+use borrow.Author.Tests.{lt-ltb, le-ltb, ltb-false}
+use lib.Dec.{ltb}
+use lib.ListN.{length, take, drop, length-drop}
+use lib.Seq.{take_all, length-take-le}
 use Rattle.words.specs.declared.Refusal.{Refusal}
 use Rattle.words.specs.declared.Refusal.TheVariants.{Unlisted, TooLong}
-use Rattle.words.specs.Judging.{when, Verdict, refused, accepted, verdict, settle}
+use Rattle.words.specs.Judging.{when, Verdict, refused, accepted, verdict}
 use Rattle.words.proofs.Judging.{accepted-rule, settle-told, settle-given}
 use Rattle.letters.specs.declared.Measured.TheVariants.{Septets, Stopped}
 use Rattle.letters.specs.Writing.{septets_of, first_unlisted, measured}
@@ -45,7 +44,7 @@ use Rattle.parted.specs.Parts.{most_parts, room_behind, parts_holding, parts_of,
 use Rattle.parted.specs.Written.{size_rules}
 use Rattle.parted.specs.Cutting.{plan_of, planned_as, plan_room, part_length}
 use Rattle.parted.specs.Inner.{sized_plan, plan_count, plan_octets}
-use Rattle.parted.proofs.Rooms.{septets-over-0, septets-over-6, alone-room, part_room, parts-alone, parts-marked, parts-some, parts-hold, parts-1-iff, parts-2, marked-part-room}
+use Rattle.parted.proofs.Rooms.{septets-over-0, septets-over-6, alone-room, part_room, parts-alone, parts-marked, parts-some, parts-hold, marked-part-room}
 use Rattle.parted.proofs.Headed.{headed-length}
 use Rattle.parted.proofs.Parts.{header-long}
 

@@ -9,15 +9,15 @@
 --   units-odd, units-short, units-tail   UCS2 behind a header
 --   septets-room, septets-tail   7-bit text behind a header, from the array that all septets stand in
 use mathlib.Core.Path.{◌≡◌, refl, sym, ap, ap₂, ◌∙◌, subst}
-use mathlib.Core.Bool.{Bool, true, false, not, cond, ◌&&◌, ◌||◌}
-use mathlib.Core.List.{List, [], ◌∷◌, ◌++◌}
+use mathlib.Core.Bool.{Bool, true, false, cond, ◌&&◌}
+use mathlib.Core.List.{List, ◌++◌}
 use Prim.Native.Nat.{ℕ, ◌+◌, ◌-◌, ◌*◌, ◌/◌, ◌%◌, ◌^◌, ◌≤◌, ◌<◌}
 use native.Mathlib.Nat.{mod-lt}
 use native.Mathlib.Omega.{arith}
 use borrow.Author.Tests.{lt-ltb, le-ltb, lt-leb, leb-true, ltb-false, eq-eqb, ne_eqb}
-use lib.Dec.{lit<, ltb, leb, eqb}
+use lib.Dec.{lit<, ltb, leb}
 use lib.ListN.{length, get_or, take, drop, replicate, length-drop}
-use lib.Seq.{take-append-le, drop-append-le, take_all, take_at, length-take-le}
+use lib.Seq.{drop-append-le, take_all, take_at}
 use Rattle.words.specs.declared.Service.TheVariants.{ShortMessage}
 use Rattle.words.specs.declared.Refusal.{Refusal}
 use Rattle.words.specs.declared.Refusal.TheVariants.{WrongLength, WrongHeader, NoRoom}
@@ -37,8 +37,7 @@ use Rattle.coding.specs.OctetRead.{octet_rules, octet_reads, read_under}
 use Rattle.coding.specs.Holding.{is_ucs2, text_rules, holds_text}
 use Rattle.coding.proofs.Prefixed.{read-given}
 use Rattle.letters.specs.Reading.{text_of, text_answers, text_leaves, text_rules as shown_rules}
-use Rattle.stream.specs.Stream.{stream_bit, cut, unpacked, octets_for}
-use Rattle.stream.specs.SeptetCalls.{septets_fit}
+use Rattle.stream.specs.Stream.{stream_bit, unpacked}
 use Rattle.stream.specs.ArrayCalls.{all_rules, all_leaves}
 use Rattle.stream.specs.Ucs2.{octet_units}
 use Rattle.stream.proofs.Stream.{unpacked-length}

@@ -2,7 +2,7 @@
 -- Assumes nothing.
 --   one-refused, one-lacks, one-short, one-done   writing one part, where the plan is refused, the part lacks, the buffer is short, and else
 --   all-refused, all_short, sizes-short, all_done   the same of all parts
-use mathlib.Core.Path.{◌≡◌, refl, sym, ap, ap₂, ◌∙◌, subst}
+use mathlib.Core.Path.{◌≡◌, sym, ap, ap₂, ◌∙◌}
 use mathlib.Core.Bool.{Bool, true, false, ◌||◌, not}
 use mathlib.Core.List.{List, [], ◌∷◌, ◌++◌}
 use Prim.Native.Nat.{ℕ, ◌+◌, ◌-◌, ◌*◌, ◌≤◌, ◌<◌}
@@ -19,7 +19,6 @@ use Rattle.letters.specs.Sized.{content_of}
 use Rattle.filling.specs.Numbered.{lacks}
 use Rattle.filling.proofs.Placing.{none-lacks}
 use Rattle.parted.specs.declared.Plan.{Plan}
-use Rattle.parted.specs.declared.Planned.{Planned}
 use Rattle.parted.specs.declared.Planned.TheVariants as planned
 use Rattle.parted.specs.declared.PartWritten.{PartWritten}
 use Rattle.parted.specs.declared.PartWritten.TheVariants as wrote
