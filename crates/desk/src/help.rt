@@ -106,9 +106,9 @@ wikuay explain sms --count 2 9B32
   octet 0 9B 10011011
   octet 1 32 00110010
   septet 0 1B 0011011 octet 0 bits 6..0: escape
-  septet 1 65 1100101 octet 0 bit 7, octet 1 bits 5..0: with the escape \\u20_aC
+  septet 1 65 1100101 octet 0 bit 7, octet 1 bits 5..0: with the escape \\u20AC
   spare octet 1 bits 7..6 00
-  text \\u20_aC
+  text \\u20AC
 ",
         ),
         PACK => put(
@@ -305,7 +305,7 @@ fn general(out: &mut [u8], at: usize) -> usize {
 Octets and septets are typed as two hexadecimal digits each, units as four, in one word or several; colons, spaces and 0x may part them.
 - in the place of the text or of the octets reads it from standard input. At most 8192 octets are typed or read.
 An option stands anywhere, as --count 5 or as --count=5; behind -- everything is a word.
-A text is shown with \\u_xXXX for a unit that is not plain ASCII, and \\\\ for a backslash.
+A text is shown with \\uXXXX for a unit that is not plain ASCII, and \\\\ for a backslash.
 The exit status is 0 where it is answered, 1 where it is refused, 2 where the usage is wrong, 3 where the command cannot run.
 wikuay write sms Hello
   octets C8329BFD06
