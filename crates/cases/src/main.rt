@@ -23,7 +23,7 @@ struct Totals {
     len: usize,
 }
 
-// Words that cannot be written are lost: who reads the totals sees that they do not come.
+// Words that cannot be written are lost: their reader has gone away.
 fn say(rt: &impl Print, words: &[u8]) {
     let _ = rt.write_all(words);
 }

@@ -19,7 +19,7 @@ use printed::put;
 use std::env::{Env, FillError};
 use std::io::{Input, Read, Result};
 
-// Words that cannot be written are lost: the script sees that no answer comes.
+// Words that cannot be written are lost: their reader has gone away.
 fn say(rt: &impl Print, words: &[u8]) {
     let _ = rt.write_all(words);
 }
