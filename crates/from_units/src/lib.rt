@@ -33,8 +33,8 @@ pub fn units_to_octets(service: Service, units: &[u16], out: &mut [u8]) -> Fille
 // Stores the octets of units.
 fn put_units(units: &[u16], out: &mut [u8]) -> Filled
     requires { length units.now ≤ 80 }
-    ensures value { result ≡ given_answers (unit_octets units.now) (length out.old) }
-    ensures out_after { out.new ≡ given_leaves (unit_octets units.now) out.old }
+    ensures answer { result ≡ given_answers (unit_octets units.now) (length out.old) }
+    ensures buffer { out.new ≡ given_leaves (unit_octets units.now) out.old }
 {
     let n = units.len();
     if out.len() < 2 * n {
@@ -79,8 +79,8 @@ fn lay(units: &[u16]) -> [u16; 41]
 // Stores the octets of the page of a text.
 fn put_page(units: &[u16], out: &mut [u8]) -> Filled
     requires { length units.now ≤ 41 }
-    ensures value { result ≡ given_answers (unit_octets (unit_page units.now)) (length out.old) }
-    ensures out_after { out.new ≡ given_leaves (unit_octets (unit_page units.now)) out.old }
+    ensures answer { result ≡ given_answers (unit_octets (unit_page units.now)) (length out.old) }
+    ensures buffer { out.new ≡ given_leaves (unit_octets (unit_page units.now)) out.old }
 {
     let page = lay(units);
     put_units(&page, out)

@@ -32,8 +32,8 @@ pub fn write_lettered(ucs2: bool, letters: Letters, units: &[u16], out: &mut [u8
 // 7-bit text: a page of 93 CR, with the letters and the text laid over it so that one CR is left between them: 6, 5, 7.
 fn write_septets(letters: Letters, units: &[u16], out: &mut [u8]) -> Filled
     requires { are_letters letters ≡ true }
-    ensures value { result ≡ lettered_writes false letters units.now (length out.old) }
-    ensures out_after { out.new ≡ lettered_write_leaves false letters units.now out.old }
+    ensures answer { result ≡ lettered_writes false letters units.now (length out.old) }
+    ensures buffer { out.new ≡ lettered_write_leaves false letters units.now out.old }
 {
     let mut page = [13u8; 93];
     page[0] = letters.first;
@@ -51,8 +51,8 @@ fn write_septets(letters: Letters, units: &[u16], out: &mut [u8]) -> Filled
 // UCS2: the letters as two septets, and behind them the octets of a page of units but its last: 5, 7.
 fn write_units(letters: Letters, units: &[u16], out: &mut [u8]) -> Filled
     requires { are_letters letters ≡ true }
-    ensures value { result ≡ lettered_writes true letters units.now (length out.old) }
-    ensures out_after { out.new ≡ lettered_write_leaves true letters units.now out.old }
+    ensures answer { result ≡ lettered_writes true letters units.now (length out.old) }
+    ensures buffer { out.new ≡ lettered_write_leaves true letters units.now out.old }
 {
     if 40 < units.len() {
         return Filled::Refused(Refusal::TooLong);
@@ -119,8 +119,8 @@ fn letters_in(octets: &[u8]) -> Letters
 // 7-bit text behind the letters: the CR behind them, and what the 90 septets hold without the CRs that close them: 11, 7.
 fn read_septets(letters: Letters, octets: &[u8], out: &mut [u16]) -> LetteredRead
     requires { (length octets.now ≡ 82) × (letters ≡ letters_in octets.now) × (are_letters letters ≡ true) }
-    ensures value { result ≡ lettered_reads false 0 octets.now (length out.old) }
-    ensures out_after { out.new ≡ lettered_read_leaves false 0 octets.now out.old }
+    ensures answer { result ≡ lettered_reads false 0 octets.now (length out.old) }
+    ensures buffer { out.new ≡ lettered_read_leaves false 0 octets.now out.old }
 {
     let mut septets = [0u8; 93];
     packing::unpack_all(Service::Broadcast, octets, 0, &mut septets);
@@ -134,8 +134,8 @@ fn read_septets(letters: Letters, octets: &[u8], out: &mut [u16]) -> LetteredRea
 // UCS2 behind the letters: 40 units, without the 000D that close them: 7.
 fn read_units(letters: Letters, octets: &[u8], out: &mut [u16]) -> LetteredRead
     requires { (length octets.now ≡ 82) × (letters ≡ letters_in octets.now) × (are_letters letters ≡ true) }
-    ensures value { result ≡ lettered_reads true 0 octets.now (length out.old) }
-    ensures out_after { out.new ≡ lettered_read_leaves true 0 octets.now out.old }
+    ensures answer { result ≡ lettered_reads true 0 octets.now (length out.old) }
+    ensures buffer { out.new ≡ lettered_read_leaves true 0 octets.now out.old }
 {
     let mut units = [0u16; 40];
     to_units::lay_units(&octets[2..], &mut units);

@@ -36,8 +36,8 @@ pub(crate) fn front(septets: &[u8], n: usize) -> &[u8]
 
 // Packs a page.
 pub(crate) fn send_page(page: [u8; 93], out: &mut [u8]) -> Filled
-    ensures value { result ≡ given_answers (packed (low_of 7 page)) (length out.old) }
-    ensures out_after { out.new ≡ given_leaves (packed (low_of 7 page)) out.old }
+    ensures answer { result ≡ given_answers (packed (low_of 7 page)) (length out.old) }
+    ensures buffer { out.new ≡ given_leaves (packed (low_of 7 page)) out.old }
 {
     send(&page, false, out)
 }
@@ -53,8 +53,8 @@ fn with_cr(n: usize, cr: bool) -> usize
 // Packs the low seven bits of septets, with a CR after them where cr says so.
 pub(crate) fn send(septets: &[u8], cr: bool, out: &mut [u8]) -> Filled
     requires { length septets.now ≤ 183 }
-    ensures value { result ≡ given_answers (packed (with_cr cr (low_of 7 septets.now))) (length out.old) }
-    ensures out_after { out.new ≡ given_leaves (packed (with_cr cr (low_of 7 septets.now))) out.old }
+    ensures answer { result ≡ given_answers (packed (with_cr cr (low_of 7 septets.now))) (length out.old) }
+    ensures buffer { out.new ≡ given_leaves (packed (with_cr cr (low_of 7 septets.now))) out.old }
 {
     let n = septets.len();
     let octets = octets_for(with_cr(n, cr));
@@ -75,8 +75,8 @@ pub(crate) fn send(septets: &[u8], cr: bool, out: &mut [u8]) -> Filled
 // The same of the first n septets of an array. The last group is loaded whole, and what stands behind the text is masked off.
 pub(crate) fn send_front(septets: &[u8], n: usize, cr: bool, out: &mut [u8]) -> Filled
     requires { (n ≤ 182) × (length septets.now ≡ 184) }
-    ensures value { result ≡ given_answers (packed (with_cr cr (take n (low_of 7 septets.now)))) (length out.old) }
-    ensures out_after { out.new ≡ given_leaves (packed (with_cr cr (take n (low_of 7 septets.now)))) out.old }
+    ensures answer { result ≡ given_answers (packed (with_cr cr (take n (low_of 7 septets.now)))) (length out.old) }
+    ensures buffer { out.new ≡ given_leaves (packed (with_cr cr (take n (low_of 7 septets.now)))) out.old }
 {
     let octets = octets_for(with_cr(n, cr));
     if out.len() < octets {
@@ -122,8 +122,8 @@ fn unpack_into(octets: &[u8], n: usize, out: &mut [u8])
 
 // Unpacks all septets that octets hold under a service: how many there are.
 pub(crate) fn unpack_whole(service: Service, octets: &[u8], count: usize, out: &mut [u8]) -> Filled
-    ensures value { result ≡ all_answers service octets.now count (length out.old) }
-    ensures out_after { out.new ≡ all_leaves service octets.now count out.old }
+    ensures answer { result ≡ all_answers service octets.now count (length out.old) }
+    ensures buffer { out.new ≡ all_leaves service octets.now count out.old }
 {
     if !fits(service, octets.len(), count) {
         return Filled::Refused(Refusal::WrongLength);
@@ -139,8 +139,8 @@ pub(crate) fn unpack_whole(service: Service, octets: &[u8], count: usize, out: &
 // Stores the first n elements of an array.
 pub(crate) fn store(array: &[u8; 184], n: usize, out: &mut [u8]) -> Filled
     requires { (n ≤ 184) × (length array.now ≡ 184) }
-    ensures value { result ≡ given_answers (take n array.now) (length out.old) }
-    ensures out_after { out.new ≡ given_leaves (take n array.now) out.old }
+    ensures answer { result ≡ given_answers (take n array.now) (length out.old) }
+    ensures buffer { out.new ≡ given_leaves (take n array.now) out.old }
 {
     if out.len() < n {
         return Filled::Refused(Refusal::NoRoom);

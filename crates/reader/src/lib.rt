@@ -39,8 +39,8 @@ pub fn read_message(
 
 // The reader of a broadcast page behind the letters of its language: 4, 11, 7.
 fn read_page(reading: Reading, count: usize, octets: &[u8], out: &mut [u16]) -> MessageRead
-    ensures value { result ≡ page_reads reading count octets.now (length out.old) }
-    ensures out_after { out.new ≡ page_read_leaves reading count octets.now out.old }
+    ensures answer { result ≡ page_reads reading count octets.now (length out.old) }
+    ensures buffer { out.new ≡ page_read_leaves reading count octets.now out.old }
 {
     page_shown(
         reading,

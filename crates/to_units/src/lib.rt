@@ -120,8 +120,8 @@ fn unit_at(octets: &[u8], i: usize) -> u16
 // Stores the first n units that octets hold.
 fn get_units(octets: &[u8], n: usize, out: &mut [u16]) -> Filled
     requires { 2 * n ≤ length octets.now }
-    ensures value { result ≡ given_answers (take n (octet_units octets.now)) (length out.old) }
-    ensures out_after { out.new ≡ given_leaves (take n (octet_units octets.now)) out.old }
+    ensures answer { result ≡ given_answers (take n (octet_units octets.now)) (length out.old) }
+    ensures buffer { out.new ≡ given_leaves (take n (octet_units octets.now)) out.old }
 {
     if out.len() < n {
         return Filled::Refused(Refusal::NoRoom);

@@ -1,0 +1,12 @@
+-- The septets from n on are filling, so that the first n decide what is left.
+use Prim.Native.Nat.{ℕ, ◌≤◌}
+use lib.ListN.{length}
+use Rattle.lists.proofs.Closing.{FilledFrom, filled-end, filled-down, filled-here, filled-whole}
+use borrow.Author.Rules.{rules}
+use Rattle.closing.proofs.kept.Given as goal
+
+abbrev pub invariant-loop-n : goal.invariant-loop-n
+invariant-loop-n l = (l.n ≤ length l.septets) × FilledFrom l.filling l.septets l.n
+
+abbrev pub decreases-loop-n : goal.decreases-loop-n
+decreases-loop-n l = l.n

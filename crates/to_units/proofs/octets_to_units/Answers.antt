@@ -1,0 +1,79 @@
+-- Rule 4 is judged whole; past it each service stores its units, and the room is judged there.
+use Prim.Native.Nat.{ℕ, ◌/◌}
+use mathlib.Core.Path.{◌≡◌, refl, sym, ap, ◌∙◌, subst}
+use mathlib.Core.Bool.{true, false}
+use mathlib.Core.List.{List}
+use native.Mathlib.Omega.{arith}
+use borrow.Author.Tests.{not-true, not-false}
+use lib.ListN.{length, take}
+use lib.Seq.{take_all}
+use Rattle.words.specs.declared.Service.{Service}
+use Rattle.words.specs.declared.Service.TheVariants.{ShortMessage, Broadcast, Ussd}
+use Rattle.words.specs.Judging.{verdict}
+use Rattle.lists.proofs.Closing.{closing-front, closing-length}
+use Rattle.stream.specs.Ucs2.{octet_units}
+use Rattle.stream.specs.UnitCalls.{units_fit, to_units_rules, to_units_answers, to_units_leaves}
+use Rattle.stream.proofs.Given.{Gives}
+use Rattle.stream.proofs.UnitOctets.{octet-units-length}
+use Rattle.stream.proofs.Calls.{to-units-passed, fit-units}
+use borrow.Author.Rules.{rules}
+use Rattle.to_units.proofs.octets_to_units.Lts as lts
+use Rattle.to_units.proofs.octets_to_units.Reads as reads
+use Rattle.to_units.proofs.octets_to_units.Tie as tie
+use Rattle.words.proofs.Clauses.{answered}
+use Rattle.to_units.proofs.octets_to_units.Goals as goal
+
+pub returns-then-not-fits : goal.returns-then-not-fits
+unfolding to_units_rules to_units_answers to_units_leaves verdict
+returns-then-not-fits c = let a = c.args in
+    let wrong : units_fit a.service (length a.octets.now) a.count ≡ false = sym c.fits.ensures ∙ not-true c.fits.result c.if-not-fits.true in
+    answered
+    (simp wrong (refl, refl))
+
+-- past rule 4, at the service that is told
+fit : (c : lts.Else1 tie.the-claims reads.Pre reads.Post tie.handed_clauses) (service : Service) → c.args.service ≡ service
+    → let a = c.args in units_fit service (length a.octets.now) a.count ≡ true
+fit c service e =
+    let a = c.args in
+    ap (λ (x : Service). units_fit x (length a.octets.now) a.count) (sym e) ∙ sym c.fits.ensures ∙ not-false c.fits.result c.if-not-fits.false
+
+-- all units that the octets hold
+all : (o : List ℕ) → take (length o / 2) (octet_units o) ≡ octet_units o
+all o = take_all (length o / 2) (octet_units o) (omega (arith, octet-units-length o))
+
+pub page_kept-requires : goal.page_kept-requires
+page_kept-requires c = let a = c.args in
+    fit-units (length a.octets.now) a.count (fit c.before.before Broadcast c.in-Broadcast.is)
+
+pub get_units-requires-in-Broadcast : goal.get_units-requires-in-Broadcast
+get_units-requires-in-Broadcast c = let o : List ℕ = c.args.octets.now in
+    omega (arith, c.page_kept.ensures, closing-length 13 (octet_units o), octet-units-length o)
+
+pub returns-in-ShortMessage : goal.returns-in-ShortMessage
+returns-in-ShortMessage c = let a = c.args in
+    let e = c.in-ShortMessage.is in
+    answered
+    (rw e
+    (to-units-passed ShortMessage a.octets.now a.out.now a.count (fit c.before.before.before.before.before.before ShortMessage e)
+    (subst (λ (us : List ℕ). Gives us a.out.now c.get_units.result c.get_units.new.out.1.0) (all a.octets.now) (c.get_units.ensures.answer, c.get_units.ensures.buffer))))
+
+pub returns-in-Broadcast : goal.returns-in-Broadcast
+returns-in-Broadcast c = let a = c.args in
+    let e = c.in-Broadcast.is in
+    let us : List ℕ = octet_units a.octets.now in
+    answered
+    (rw e
+    (to-units-passed Broadcast a.octets.now a.out.now a.count (fit c.before.before.before.before.before.before.before Broadcast e)
+    (subst (λ (x : List ℕ). Gives x a.out.now c.get_units-in-Broadcast.result c.get_units-in-Broadcast.new.out.1.0) (ap (λ (n : ℕ). take n us) c.page_kept.ensures ∙ closing-front 13 us) (c.get_units-in-Broadcast.ensures.answer, c.get_units-in-Broadcast.ensures.buffer))))
+
+pub returns-in-Ussd : goal.returns-in-Ussd
+returns-in-Ussd c = let a = c.args in
+    let e = c.in-Ussd.is in
+    answered
+    (rw e
+    (to-units-passed Ussd a.octets.now a.out.now a.count (fit c.before.before.before.before.before.before Ussd e)
+    (subst (λ (us : List ℕ). Gives us a.out.now c.get_units-in-Ussd.result c.get_units-in-Ussd.new.out.1.0) (all a.octets.now) (c.get_units-in-Ussd.ensures.answer, c.get_units-in-Ussd.ensures.buffer))))
+
+pub returns-in-OldPage : goal.returns-in-OldPage
+unfolding to_units_rules to_units_answers to_units_leaves verdict
+returns-in-OldPage c = answered (rw c.in-OldPage.is (refl, refl))
