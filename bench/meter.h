@@ -6,7 +6,7 @@
 
 typedef void (*call)(void);
 
-/* Counts with the processor's trap flag: the kernel, or the emulator, hands over after every instruction.
+/* Counts with the processor's trap flag: the kernel hands over after every instruction.
    The count repeats exactly. Answers 0 if the flag does not work here. */
 int meter_start(void);
 

@@ -3,7 +3,8 @@
 
 In README.md and docs/*.md every link leads to a file, every path under crates/ exists, every item written `crate::item` or
 `module::item` is in the source, and every crate that README's and ARCHITECTURE's tables list is one of crates.txt and the other way
-round. In docs/DEMANDS.md every edit, written `crate/label`, and every theorem, written in kebab-case, exists. docs/EDITS.md has a row for each must-fail edit, with the edit's own words.
+round. In docs/DEMANDS.md every edit, written `crate/label`, and every theorem, written in kebab-case, exists, and every word in snake_case is
+a theorem, a definition, a crate or an item of the source. docs/EDITS.md has a row for each must-fail edit, with the edit's own words.
 docs/TRUST.md has a row for each file of definitions, and its count of their lines is right to the hundred.
 
     documents.py              judges the documents
@@ -17,8 +18,8 @@ import sys
 ROOT = pathlib.Path(__file__).resolve().parent.parent
 
 
-def faults_in(name, text, exists, crates, edits, theorems, specs, items):
-    """What a document says that is not so, in words. `exists` tells whether a path is there, `edits` has the row of each edit."""
+def faults_in(name, text, exists, crates, edits, theorems, specs, items, words):
+    """What a document says that is not so, in words. `exists` tells whether a path is there, `edits` has the row of each edit, `words` are definitions."""
     found = []
     folder = pathlib.PurePosixPath(name).parent
     for link in re.findall(r"\]\(([^)#:]+)\)", text):
@@ -39,6 +40,8 @@ def faults_in(name, text, exists, crates, edits, theorems, specs, items):
         told = set(re.findall(r"`(\w+/\w+)`", text))
         found += [f"names the edit {edit}, which is not there" for edit in sorted(told - edits.keys())]
         found += [f"names the theorem {law}, which is not there" for law in re.findall(r"`([a-z0-9]+(?:-[a-z0-9]+)+)`", text) if law not in theorems]
+        known = {*theorems, *words, *crates, *(item.partition("::")[2] for item in items)}
+        found += [f"names {word}, which is not there" for word in re.findall(r"`([a-z0-9]+(?:_[a-z0-9]+)+)`", text) if word not in known]
     if name == "docs/EDITS.md":
         rows = re.findall(r"^\| `\w+/\w+` .*$", text, re.M)
         found += [f"lacks: {row}" for row in edits.values() if row not in rows]
@@ -66,7 +69,7 @@ def self_test():
     """Each fault is found in a text that has it, and none in a text that has none."""
     there = {"docs/A.md", "crates/a/src"}.__contains__
     exists = lambda path: there(str(path))
-    demands = "| a | `to-be` | `a/one` |\n"
+    demands = "| a | `to-be`, `can_be`, `call` | `a/one` |\n"
     table = "| Crate | Holds |\n|---|---|\n| `a` | x |\n"
     tests = [
         ("docs/B.md", "[A](A.md) `crates/a/src`", 0),
@@ -80,25 +83,29 @@ def self_test():
         ("docs/DEMANDS.md", demands, 0),
         ("docs/DEMANDS.md", demands.replace("a/one", "a/two"), 1),
         ("docs/DEMANDS.md", demands.replace("to-be", "not-to-be"), 1),
+        ("docs/DEMANDS.md", demands.replace("can_be", "can_not_be"), 1),
+        ("docs/DEMANDS.md", demands.replace("can_be", "a_call"), 0),
         ("docs/EDITS.md", "| `a/one` | code | x |\n", 0),
         ("docs/EDITS.md", "| `a/one` | code | y |\n", 2),
         ("docs/TRUST.md", "100 lines\n| `a` | `Sizes` | x |\n", 0),
         ("docs/TRUST.md", "300 lines\n| `a` | `Bits` | x |\n", 3),
     ]
     for name, text, expected in tests:
-        found = faults_in(name, text, exists, ["a"], {"a/one": "| `a/one` | code | x |"}, {"to-be"}, {("a", "Sizes"): 120}, {"a::call"})
+        found = faults_in(name, text, exists, ["a"], {"a/one": "| `a/one` | code | x |"}, {"to-be"}, {("a", "Sizes"): 120}, {"a::call", "a::a_call"}, {"can_be"})
         if len(found) != expected:
             sys.exit(f"documents: self-test: expected {expected} faults in {text!r}, found {found}")
 
 
 def main(edits_only):
-    crates = re.findall(r"^(\w+):", (ROOT / "crates.txt").read_text(encoding="utf-8"), re.M)
+    crates = re.findall(r"^(\w+)[^:#\n]*:", (ROOT / "crates.txt").read_text(encoding="utf-8"), re.M)
     edits = {f"{crate}/{path.stem}": edit_row(path) for crate in crates for path in sorted((ROOT / "crates" / crate / "must-fail").glob("*.edit"))}
     if edits_only:
         print("\n".join(edits.values()))
         return
     proofs = "\n".join(path.read_text(encoding="utf-8") for path in ROOT.glob("crates/*/proofs/*.antt"))
-    theorems = set(re.findall(r"^ *(?:pub )?([a-z0-9]+(?:-[^\s:]+)+) :", proofs, re.M))
+    theorems = set(re.findall(r"^ *(?:pub )?([a-z0-9]+(?:[-_][^\s:]+)+) :", proofs, re.M))
+    stated = "\n".join(path.read_text(encoding="utf-8") for path in ROOT.glob("crates/*/specs/*.antt"))
+    words = set(re.findall(r"^ *(?:(?:unfoldable|abbrev|pub) )*([a-z0-9]\w*) :", stated, re.M))
     specs = {
         (crate, path.stem): len(path.read_text(encoding="utf-8").splitlines())
         for crate in crates
@@ -116,7 +123,7 @@ def main(edits_only):
     count = 0
     for path in documents:
         name = str(path.relative_to(ROOT))
-        for fault in faults_in(name, path.read_text(encoding="utf-8"), lambda p: (ROOT / p).exists(), crates, edits, theorems, specs, items):
+        for fault in faults_in(name, path.read_text(encoding="utf-8"), lambda p: (ROOT / p).exists(), crates, edits, theorems, specs, items, words):
             count += 1
             print(f"{name} {fault}")
     print(f"documents: {len(documents)} read, {count} faults")

@@ -48,7 +48,7 @@ def gone(text, first, wanted, unwanted):
 
 def self_test():
     """A form is found where it stands, and missed where it is gone, commented out or broken."""
-    good = "fn squeeze(x: u64) -> u64\n    ensures { λ r. ⌜ r ≡ x * 2 ⌝ }\n{\n    (x >> 8) & 7 | (x << 1)\n}\n\nfn other() {\n}\n"
+    good = "fn squeeze(x: u64) -> u64\n    ensures { result ≡ x * 2 }\n{\n    (x >> 8) & 7 | (x << 1)\n}\n\nfn other() {\n}\n"
     form = ("fn squeeze(", [r"<<", r">>", r" & "], [r" \* "])
     tests = [
         (good, 0),

@@ -14,8 +14,12 @@ need() {
   exit 2
 }
 
-# need_rt: ends the script where the Rattle kit is missing.
+# need_rt: ends the script where the Rattle kit is missing, or can be of no use.
 need_rt() {
+  if [ "$(uname -m)" != x86_64 ]; then
+    printf '%s: the Rattle kit is for x86-64, and this machine is %s\n' "${0##*/}" "$(uname -m)"
+    exit 2
+  fi
   command -v rt >/dev/null 2>&1 && return
   printf '%s: the command rt is not on the PATH; install the Rattle kit (%s) and try again\n' "${0##*/}" "$(cat kit.txt)"
   exit 2
@@ -37,50 +41,59 @@ newer() {
   return $found
 }
 
-# stale NAME FILE: whether FILE is missing or older than a source, or its last build did not end well.
-stale() { [ ! -s "$2" ] || [ -e "target/$1.unfinished" ] || newer "$2"; }
+# stale FILE: whether FILE is missing, or older than a source.
+stale() { [ ! -s "$1" ] || newer "$1"; }
 
-# stale_program NAME: the same of target/bin/NAME. The kit keeps a stamp of each program that it proved, linked and ran.
-stale_program() { [ ! -x "target/bin/$1" ] || [ ! -e "target/stamp/$1" ] || stale "$1" "target/bin/$1"; }
+# stale_program NAME: the same of target/bin/NAME.
+stale_program() { [ ! -x "target/bin/$1" ] || stale "target/bin/$1"; }
 
-# build NAME FILE WORDS..: runs rt on the words, which make FILE, with a line for each crate on standard error. Ends the script where
-# that fails. FILE is as old as the begin of the build, so that a source that is changed meanwhile is newer.
+# take MADE FILE BEGUN: FILE becomes a copy of what rt made, whole or not at all. It is as old as BEGUN, the begin of the build, so that
+# a source that is changed meanwhile is newer.
+take() {
+  mkdir -p "${2%/*}"
+  cp "$1" "$2.new"
+  touch -r "$3" "$2.new"
+  mv "$2.new" "$2"
+}
+
+# build NAME MADE FILE WORDS..: runs rt on the words in the folder of the crate NAME, and takes what it makes there, out/MADE, as FILE.
+# Standard error has a line for each crate that is proved. Ends the script where that fails.
 build() {
-  local name=$1 made=$2 me=${0##*/}
-  shift 2
-  printf '%s: proving and building %s; this takes some minutes\n' "$me" "$made" >&2
+  local name=$1 made=crates/$1/out/$2 file=$3 me=${0##*/}
+  shift 3
+  printf '%s: proving and building %s; this takes some minutes\n' "$me" "$file" >&2
   mkdir -p target
-  : >"target/$name.unfinished"
-  if ! rt "$@" 2>&1 | tee target/prove.log | sed -u -n "s/^rt: \([a-z0-9_]* proved.*\)/$me: \1/p" >&2 || [ ! -s "$made" ]; then
+  : >"target/$name.begun"
+  if ! (cd "crates/$name" && rt "$@" </dev/null 2>&1) | tee target/prove.log |
+    sed -u -n "/^crate \([a-z0-9_]*\): .*/{s//$me: \1 proved/;h};/^logic=proved/{x;p}" >&2 ||
+    [ ! -s "$made" ] || ! take "$made" "$file" "target/$name.begun"; then
     printf '%s: the proof or the build failed; target/prove.log says why\n' "$me" >&2
     exit 1
   fi
-  touch -c -r "target/$name.unfinished" "$made"
-  rm "target/$name.unfinished"
 }
 
-# archive: proves the exported calls and builds target/staticlib/libwikuay.a, where that is stale.
+# archive: proves the exported calls and builds target/lib/libwikuay.a, where that is stale. The crate that exports them is `wikuay_c`,
+# since `wikuay` is a library of this repository, and a crate is not both.
 archive() {
-  ! stale archive target/staticlib/libwikuay.a || build archive target/staticlib/libwikuay.a staticlib wikuay
+  ! stale target/lib/libwikuay.a || build wikuay_c libwikuay_c.a target/lib/libwikuay.a lib
 }
 
-# program NAME: proves and builds target/bin/NAME and what it stands on, where that is stale.
+# program NAME: proves and builds target/bin/NAME and what it stands on, where that is stale. rt runs what it builds: on the words that
+# `rt ci` gives it.
 program() {
+  local words=()
   stale_program "$1" || return 0
-  # Where the sources are those of the last proof the kit builds nothing, unless its stamp is gone.
-  if [ ! -s "target/bin/$1" ] || [ ! -x "target/bin/$1" ] || [ -e "target/$1.unfinished" ]; then rm -f "target/stamp/$1"; fi
-  build "$1" "target/bin/$1" check "$1"
+  [ ! -f "crates/$1/args" ] || mapfile -t words <"crates/$1/args"
+  build "$1" "$1" "target/bin/$1" run -- "${words[@]}"
 }
 
 # kit: the folder of the Rattle kit.
-kit() { dirname "$(dirname "$(rt doc)")"; }
+kit() { dirname "$(rt doc)"; }
 
-# run NAME WORDS..: runs target/bin/NAME. It is x86-64: the kit has its loader and library, and on Arm an emulator.
+# run NAME WORDS..: runs target/bin/NAME with the loader and the C library of the kit.
 run() {
-  local made=target/bin/$1 folder machine
+  local made=target/bin/$1 lib
   shift
-  folder=$(kit) machine=$(uname -m)
-  set -- "$folder/toolchain/lib/ld-linux-x86-64.so.2" --library-path "$folder/toolchain/lib" "$made" "$@"
-  [ "$machine" = x86_64 ] || set -- "$folder/on/$machine/toolchain/bin/qemu-x86_64" "$@"
-  "$@"
+  lib=$(kit)/toolchain/lib
+  "$lib/ld-linux-x86-64.so.2" --library-path "$lib" "$made" "$@"
 }

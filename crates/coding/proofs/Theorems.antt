@@ -7,8 +7,8 @@
 --   octet-counts     reserved octets and writable readings of each service are those of the list counts
 use mathlib.Core.Path.{◌≡◌, refl, ap, ◌∙◌, sym, subst}
 use mathlib.Core.Bool.{Bool, true, false}
-use mathlib.Core.List.{List, [], ◌∷◌}
-use Prim.Native.Nat.{ℕ, zero, suc, ◌≤◌, ◌<◌}
+use mathlib.Core.List.{[], ◌∷◌}
+use Prim.Native.Nat.{ℕ, ◌≤◌, ◌<◌}
 use native.Mathlib.Omega.{arith}
 use borrow.Author.Tests.{eq-eqb}
 use lib.Dec.{T, eqb}
@@ -25,7 +25,6 @@ use Rattle.coding.specs.declared.OctetWritten.{OctetWritten}
 use Rattle.coding.specs.declared.OctetWritten.TheVariants.{Done, Refused}
 use Rattle.coding.specs.OctetRead.{class_in, discard_in, store_in, general_reading, notice_reading, last_reading, header_reading, read_short, read_page, read_under, octet_rules, octet_reads}
 use Rattle.lists.specs.Bits.{bit_of, gather, bits_of}
-use Rattle.lists.proofs.Tests.{both}
 use Rattle.coding.specs.OctetWritten.{same_coding, smallest, write_rules, octet_writes}
 use Rattle.coding.specs.Counts.{counted, counts, right}
 use Rattle.coding.specs.Readings.{without_letters}

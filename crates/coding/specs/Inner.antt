@@ -4,15 +4,12 @@
 --   reading_of k          == the reading whose key is k
 --   written_as o          == the answer of writing the octet o, or of 256, which is none
 --   unmarked_holds r text == that text, or 3 where r has the prefix mark or the header mark
-use Rattle.std.specs.Prelude.{ℕ, ◌/◌, ◌%◌, cond, eqb, ltb, get_or}
+use Rattle.std.specs.Prelude.{ℕ, cond, eqb, ltb, get_or}
 use Rattle.words.specs.declared.Refusal.TheVariants.{Prefixed, Unwritable}
 use Rattle.keys.specs.Keys.{key_from, alphabet_digit, class_digit, language_digit, notice_digit, compressed_digit, deletion_digit, prefix_digit, reserved_digit, header_digit}
 use Rattle.fields.specs.declared.Alphabet.TheVariants.{SevenBit}
 use Rattle.fields.specs.declared.Class.TheVariants.{Unset}
 use Rattle.fields.specs.declared.Language.TheVariants.{German}
-use Rattle.fields.specs.declared.Kind.TheVariants.{Voicemail}
-use Rattle.fields.specs.declared.Notice.{Notice}
-use Rattle.fields.specs.declared.Notice.TheVariants.{Nothing, Discard, Store}
 use Rattle.coding.specs.declared.Reading.{Reading}
 use Rattle.coding.specs.declared.OctetWritten.{OctetWritten}
 use Rattle.coding.specs.declared.OctetWritten.TheVariants.{Done, Refused}

@@ -5,7 +5,7 @@
 --   smallest s r     == the first octet of 0 to 255 that reads as r under service s, and 256 where none does
 --   write_rules s r   == the refusals of writing r under s, in order
 --   octet_writes s r  == the octet that writing r under s gives, or the refusal
-use Rattle.std.specs.Prelude.{ℕ, Bool, true, false, cond, List, [], ◌∷◌, ◌++◌, eqb}
+use Rattle.std.specs.Prelude.{ℕ, Bool, false, cond, List, [], ◌∷◌, ◌++◌, eqb}
 use Rattle.octets.specs.Smallest.{first_octet}
 use Rattle.words.specs.Sizes.{is_old_page}
 use Rattle.words.specs.Judging.{Rule, when, verdict, settle, service_rules}

@@ -6,8 +6,8 @@ use Rattle.cutting.proofs.plan.Kinds as plan-kinds
 use Rattle.cutting.proofs.plan.Reads as plan
 use Rattle.cutting.proofs.part_room.Kinds as part-room-kinds
 use Rattle.cutting.proofs.part_room.Reads as part_room
-use Rattle.cutting.proofs.part-length.Kinds as part-length-kinds
-use Rattle.cutting.proofs.part-length.Reads as part-length
+use Rattle.cutting.proofs.part_length.Kinds as part-length-kinds
+use Rattle.cutting.proofs.part_length.Reads as part-length
 
 pub plan-unique : OneAnswer plan-kinds.ps plan-kinds.r plan.Post
 plan-unique κs a x y u v p q = p ∙ sym q

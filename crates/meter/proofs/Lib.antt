@@ -1,3 +1,2 @@
-pub mod InPlace
 pub mod Outcomes
 pub mod Theorems

@@ -11,7 +11,7 @@ use prog.Routine.{Routine}
 use types.Logic.{Logic}
 use contract.Lifetimes.{Lfts}
 use contract.Monad.{Fun, fact}
-use denote.Ref.{Bor}
+use denote.MutBor.{MutBor}
 use denote.Triple.Clauses.{AtExit}
 use Rattle.metered.specs.declared.Meter.{Meter}
 use Rattle.metered.specs.declared.Keyed.{Keyed}
@@ -26,7 +26,7 @@ use Rattle.meter.specs.contracts.add as add
 use Rattle.meter.specs.contracts.take_back as take_back
 use Rattle.meter.specs.contracts.clear as clear
 
-module _ {M : Type 1} {𝓤 : Ura M} (𝓛 : Logic 𝓤) (mem : Memory → SProp 𝓤) (run : Routine → Fun 𝓤) (κs : Lfts 1) (meter : Bor Meter) (answer : Pressed) where
+module _ {M : Type 1} {𝓤 : Ura M} (𝓛 : Logic 𝓤) (mem : Memory → SProp 𝓤) (run : Routine → Fun 𝓤) (κs : Lfts 1) (meter : MutBor Meter) (answer : Pressed) where
   pub add-called : (unit : ℕ) (u : AtExit add.ended κs) → ent 𝓤 ((add.clauses 𝓛 mem run κs (meter, (unit, tt))).ensures tt answer u) (fact 𝓤 (Called meter.now (adds unit) answer u.0.now))
   add-called unit u = key-called 𝓤 meter.now (adds unit) answer u.0.now
 

@@ -1,4 +1,4 @@
-// The calls that C links for broadcasts of several pages (document 02, W1). No rule lives here.
+// The calls for broadcasts of several pages (document 02, W1). No rule lives here.
 // A reading with a number that names nothing is refused 8 before all else.
 ghost use Rattle.std.specs.Prelude.{◌≡◌, ◌≤◌, length};
 ghost use Rattle.pages.specs.Reports.{counted_pages, pages_pages, join_pages};
@@ -11,8 +11,7 @@ use pages::{Counted, Joined, PagesWritten};
 use words::Refusal;
 
 // The header of a block. It refuses nothing.
-#[unsafe(no_mangle)]
-pub extern "C" fn wikuay_read_header(block: Block) -> BlockHeader
+pub fn wikuay_read_header(block: Block) -> BlockHeader
     ensures answer { result ≡ read_header_gives block }
 {
     let octets = block.octets;
@@ -20,8 +19,7 @@ pub extern "C" fn wikuay_read_header(block: Block) -> BlockHeader
 }
 
 // How many pages a text takes. Refuses 8, 1, 2, 3, 6, 5.
-#[unsafe(no_mangle)]
-pub extern "C" fn wikuay_count_pages(reading: ReadingNumbers, text: &[u16]) -> PagesAnswer
+pub fn wikuay_count_pages(reading: ReadingNumbers, text: &[u16]) -> PagesAnswer
     ensures answer { result ≡ count_pages_gives reading text.now }
 {
     match names::reading(reading) {
@@ -31,8 +29,7 @@ pub extern "C" fn wikuay_count_pages(reading: ReadingNumbers, text: &[u16]) -> P
 }
 
 // Builds one page of a text, counted from 1. Refuses 8, 1, 2, 3, 6, 5, 10; a refused block is all zero.
-#[unsafe(no_mangle)]
-pub extern "C" fn wikuay_build_page(
+pub fn wikuay_build_page(
     sequence: u16,
     identifier: u16,
     reading: ReadingNumbers,
@@ -57,8 +54,7 @@ pub extern "C" fn wikuay_build_page(
 
 // Writes all pages of a text end to end. Refuses 8, 1, 2, 3, 6, 5, 7, and then leaves the buffer as it came; a success touches only the
 // written front.
-#[unsafe(no_mangle)]
-pub extern "C" fn wikuay_write_pages(
+pub fn wikuay_write_pages(
     sequence: u16,
     identifier: u16,
     reading: ReadingNumbers,
@@ -78,8 +74,7 @@ pub extern "C" fn wikuay_write_pages(
 
 // Joins blocks, lent end to end in any order. Refuses 4, 10, 1, 2, 3, 10, 7, and then leaves the buffer as it came; a success touches only
 // the written front.
-#[unsafe(no_mangle)]
-pub extern "C" fn wikuay_join_pages(blocks: &[u8], out: &mut [u16]) -> JoinAnswer
+pub fn wikuay_join_pages(blocks: &[u8], out: &mut [u16]) -> JoinAnswer
     ensures answer { result ≡ join_pages_gives blocks.now (length out.old) }
     ensures buffer { out.new ≡ join_pages_keeps blocks.now out.old }
 {

@@ -1,4 +1,5 @@
-// The calls that C links: the library's own under plain names, with numbers for services, readings and refusals. No rule lives here.
+// The calls that C links, for Rattle: the library's own under plain names, with numbers for services, readings and refusals. No rule lives here.
+// `wikuay_c` exports them.
 // A number that names no service is refused 8 before all else, and so is a reading with a number that names nothing.
 #![tactic(auto)]
 
@@ -20,16 +21,14 @@ pub mod long_messages;
 pub mod meters;
 
 // The version of the library as one number, as the header has it.
-#[unsafe(no_mangle)]
-pub extern "C" fn wikuay_version() -> u32
+pub fn wikuay_version() -> u32
     ensures answer { result ≡ version_gives }
 {
     100
 }
 
 // What a coding octet says under a service. Refuses 8, 2.
-#[unsafe(no_mangle)]
-pub extern "C" fn wikuay_read_coding(service: u32, coding: u8) -> ReadAnswer
+pub fn wikuay_read_coding(service: u32, coding: u8) -> ReadAnswer
     ensures answer { result ≡ read_coding_gives service coding }
 {
     match words::named_service(service) {
@@ -39,8 +38,7 @@ pub extern "C" fn wikuay_read_coding(service: u32, coding: u8) -> ReadAnswer
 }
 
 // The smallest coding octet that says what the reading does. Refuses 8.
-#[unsafe(no_mangle)]
-pub extern "C" fn wikuay_write_coding(service: u32, reading: ReadingNumbers) -> Answer
+pub fn wikuay_write_coding(service: u32, reading: ReadingNumbers) -> Answer
     ensures answer { result ≡ write_coding_gives service reading }
 {
     match words::named_service(service) {
@@ -53,8 +51,7 @@ pub extern "C" fn wikuay_write_coding(service: u32, reading: ReadingNumbers) -> 
 }
 
 // Which text a reading holds. Refuses 8, 1, 2, 3.
-#[unsafe(no_mangle)]
-pub extern "C" fn wikuay_holds_text(reading: ReadingNumbers) -> ReadAnswer
+pub fn wikuay_holds_text(reading: ReadingNumbers) -> ReadAnswer
     ensures answer { result ≡ holds_text_gives reading }
 {
     match names::reading(reading) {
@@ -64,8 +61,7 @@ pub extern "C" fn wikuay_holds_text(reading: ReadingNumbers) -> ReadAnswer
 }
 
 // Packs septets. Refuses 8, 9, 5, 7, and then leaves the buffer as it came; a success touches only the written front.
-#[unsafe(no_mangle)]
-pub extern "C" fn wikuay_pack(service: u32, septets: &[u8], out: &mut [u8]) -> Answer
+pub fn wikuay_pack(service: u32, septets: &[u8], out: &mut [u8]) -> Answer
     ensures answer { result ≡ pack_gives service septets.now (length out.old) }
     ensures buffer { out.new ≡ pack_keeps service septets.now out.old }
 {
@@ -76,8 +72,7 @@ pub extern "C" fn wikuay_pack(service: u32, septets: &[u8], out: &mut [u8]) -> A
 }
 
 // Unpacks octets into septets. Refuses 8, 4, 7, and then leaves the buffer as it came; a success touches only the written front.
-#[unsafe(no_mangle)]
-pub extern "C" fn wikuay_unpack(service: u32, octets: &[u8], count: usize, out: &mut [u8]) -> Answer
+pub fn wikuay_unpack(service: u32, octets: &[u8], count: usize, out: &mut [u8]) -> Answer
     ensures answer { result ≡ unpack_gives service octets.now count (length out.old) }
     ensures buffer { out.new ≡ unpack_keeps service octets.now count out.old }
 {
@@ -90,8 +85,7 @@ pub extern "C" fn wikuay_unpack(service: u32, octets: &[u8], count: usize, out: 
 }
 
 // Text to septets. Refuses 6, 7, and then leaves the buffer as it came; a success touches only the written front.
-#[unsafe(no_mangle)]
-pub extern "C" fn wikuay_text_to_septets(text: &[u16], out: &mut [u8]) -> Answer
+pub fn wikuay_text_to_septets(text: &[u16], out: &mut [u8]) -> Answer
     ensures answer { result ≡ text_to_septets_gives text.now (length out.old) }
     ensures buffer { out.new ≡ text_to_septets_keeps text.now out.old }
 {
@@ -99,8 +93,7 @@ pub extern "C" fn wikuay_text_to_septets(text: &[u16], out: &mut [u8]) -> Answer
 }
 
 // Septets to text. Refuses 9, 7, and then leaves the buffer as it came; a success touches only the written front.
-#[unsafe(no_mangle)]
-pub extern "C" fn wikuay_septets_to_text(septets: &[u8], out: &mut [u16]) -> Answer
+pub fn wikuay_septets_to_text(septets: &[u8], out: &mut [u16]) -> Answer
     ensures answer { result ≡ septets_to_text_gives septets.now (length out.old) }
     ensures buffer { out.new ≡ septets_to_text_keeps septets.now out.old }
 {
@@ -108,8 +101,7 @@ pub extern "C" fn wikuay_septets_to_text(septets: &[u8], out: &mut [u16]) -> Ans
 }
 
 // Reads a message. Refuses 8, 1, 2, 3, 4, 11, 7, and then leaves the buffer as it came; a success touches only the written front.
-#[unsafe(no_mangle)]
-pub extern "C" fn wikuay_read_message(
+pub fn wikuay_read_message(
     service: u32,
     coding: u8,
     count: usize,
@@ -123,8 +115,7 @@ pub extern "C" fn wikuay_read_message(
 }
 
 // Writes a message. Refuses 8, 1, 2, 3 or in its place 11, 6, 5, 7, and then leaves the buffer as it came; a success touches only the written front.
-#[unsafe(no_mangle)]
-pub extern "C" fn wikuay_write_message(
+pub fn wikuay_write_message(
     service: u32,
     reading: ReadingNumbers,
     text: &[u16],

@@ -1,4 +1,4 @@
-// The calls that C links for long short messages (document 02, W5). No rule lives here.
+// The calls for long short messages (document 02, W5). No rule lives here.
 // A reading with a number that names nothing is refused 8 before all else, and so is a mark that is neither 0 nor 1.
 ghost use Rattle.std.specs.Prelude.{◌≡◌, ◌≤◌, length};
 ghost use Rattle.parted.specs.Reports.{counted_parts, part_travels, part_parts, parts_parts, join_parts};
@@ -12,8 +12,7 @@ use words::Refusal;
 
 // Reads one short message, where the mark says whether a header stands in front: 1, or 0. Refuses 8, 1, 2, 4, 12, 4, 7, and then leaves the buffer as it
 // came; a success touches only the written front.
-#[unsafe(no_mangle)]
-pub extern "C" fn wikuay_read_part(
+pub fn wikuay_read_part(
     coding: u8,
     count: usize,
     mark: u8,
@@ -30,8 +29,7 @@ pub extern "C" fn wikuay_read_part(
 }
 
 // How many parts a text takes. Refuses 8, 1, 2, 6, 5.
-#[unsafe(no_mangle)]
-pub extern "C" fn wikuay_count_parts(reading: ReadingNumbers, text: &[u16]) -> PartsAnswer
+pub fn wikuay_count_parts(reading: ReadingNumbers, text: &[u16]) -> PartsAnswer
     ensures answer { result ≡ count_parts_gives reading text.now }
 {
     match names::reading(reading) {
@@ -41,8 +39,7 @@ pub extern "C" fn wikuay_count_parts(reading: ReadingNumbers, text: &[u16]) -> P
 }
 
 // Writes one part of a text, counted from 1. Refuses 8, 1, 2, 6, 5, 10, 7, and then leaves the buffer as it came; a success touches only the written front.
-#[unsafe(no_mangle)]
-pub extern "C" fn wikuay_write_part(
+pub fn wikuay_write_part(
     reading: ReadingNumbers,
     reference: u8,
     text: &[u16],
@@ -62,8 +59,7 @@ pub extern "C" fn wikuay_write_part(
 
 // Writes all parts of a text end to end, and for each its count and its length in octets. Refuses 8, 1, 2, 6, 5, 7, and then leaves both buffers as they
 // came; a success touches only the written fronts.
-#[unsafe(no_mangle)]
-pub extern "C" fn wikuay_write_parts(
+pub fn wikuay_write_parts(
     reading: ReadingNumbers,
     reference: u8,
     text: &[u16],
@@ -84,8 +80,7 @@ pub extern "C" fn wikuay_write_parts(
 
 // Joins parts, lent end to end in any order beside their counts. Refuses 1, 2, 4, 12, 4, 10, 7, and then leaves the buffer as it came; a success touches
 // only the written front.
-#[unsafe(no_mangle)]
-pub extern "C" fn wikuay_join_parts(
+pub fn wikuay_join_parts(
     coding: u8,
     counts: &[u8],
     octets: &[u8],

@@ -1,4 +1,4 @@
-// The calls that C links for the room left while a text is typed (document 02, W4). No rule lives here.
+// The calls for the room left while a text is typed (document 02, W4). No rule lives here.
 // A record whose number names no service is refused 8 before all else, and comes back as it is.
 ghost use Rattle.std.specs.Prelude.{◌≡◌};
 ghost use Rattle.wikuay.specs.MeterCalls.{named_meter, shown_for, unnamed_meter, new_meter_gives, room_left_gives, unit_added_gives, unit_taken_back_gives, meter_cleared_gives};
@@ -32,8 +32,7 @@ enum NamedMeter {
 }
 
 // A meter for a service, with nothing typed. Refuses 8.
-#[unsafe(no_mangle)]
-pub extern "C" fn wikuay_new_meter(service: u32) -> MeterAnswer
+pub fn wikuay_new_meter(service: u32) -> MeterAnswer
     ensures answer { result ≡ new_meter_gives service }
 {
     let meter = MeterNumbers {
@@ -44,8 +43,7 @@ pub extern "C" fn wikuay_new_meter(service: u32) -> MeterAnswer
 }
 
 // The number that a record shows. Refuses 8.
-#[unsafe(no_mangle)]
-pub extern "C" fn wikuay_room_left(meter: MeterNumbers) -> MeterAnswer
+pub fn wikuay_room_left(meter: MeterNumbers) -> MeterAnswer
     ensures answer { result ≡ room_left_gives meter }
 {
     match named(meter) {
@@ -61,8 +59,7 @@ pub extern "C" fn wikuay_room_left(meter: MeterNumbers) -> MeterAnswer
 }
 
 // A unit is typed. Refuses 8, 6, 5, and then leaves the record as it was.
-#[unsafe(no_mangle)]
-pub extern "C" fn wikuay_unit_added(meter: MeterNumbers, unit: u16) -> MeterAnswer
+pub fn wikuay_unit_added(meter: MeterNumbers, unit: u16) -> MeterAnswer
     ensures answer { result ≡ unit_added_gives meter unit }
 {
     match named(meter) {
@@ -72,8 +69,7 @@ pub extern "C" fn wikuay_unit_added(meter: MeterNumbers, unit: u16) -> MeterAnsw
 }
 
 // A unit is taken back. Refuses 8, 6, 5, and then leaves the record as it was.
-#[unsafe(no_mangle)]
-pub extern "C" fn wikuay_unit_taken_back(meter: MeterNumbers, unit: u16) -> MeterAnswer
+pub fn wikuay_unit_taken_back(meter: MeterNumbers, unit: u16) -> MeterAnswer
     ensures answer { result ≡ unit_taken_back_gives meter unit }
 {
     match named(meter) {
@@ -83,8 +79,7 @@ pub extern "C" fn wikuay_unit_taken_back(meter: MeterNumbers, unit: u16) -> Mete
 }
 
 // The whole text is taken back. Refuses 8.
-#[unsafe(no_mangle)]
-pub extern "C" fn wikuay_meter_cleared(meter: MeterNumbers) -> MeterAnswer
+pub fn wikuay_meter_cleared(meter: MeterNumbers) -> MeterAnswer
     ensures answer { result ≡ meter_cleared_gives meter }
 {
     match named(meter) {

@@ -1,8 +1,8 @@
 -- The units passed are laid over the front of the 41 units 000D.
-use Prim.Native.Nat.{ℕ, ◌≤◌, ◌-◌, ◌<◌}
+use Prim.Native.Nat.{ℕ, ◌≤◌, ◌<◌}
 use mathlib.Core.List.{List}
-use lib.ListN.{length, drop, replicate, drop_of_length-le}
-use Rattle.lists.proofs.Laid.{Laying, lay-none, lay-one, lay-rest, lay-end}
+use lib.ListN.{length, replicate, drop_of_length-le}
+use Rattle.lists.proofs.Laid.{lay-none, lay-one, lay-rest, lay-end}
 use Rattle.stream.specs.Ucs2.{unit_page}
 use borrow.Author.Rules.{rules}
 use Rattle.from_units.proofs.lay.Goals as goal

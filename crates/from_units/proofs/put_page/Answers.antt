@@ -7,7 +7,6 @@ use lib.ListN.{length}
 use Rattle.stream.specs.Ucs2.{unit_octets}
 use Rattle.stream.specs.Storing.{given_answers, given_leaves}
 use Rattle.stream.proofs.Pages.{unit-page-length}
-use borrow.Author.Rules.{rules}
 use Rattle.words.proofs.Clauses.{answered}
 use Rattle.from_units.proofs.put_page.Goals as goal
 

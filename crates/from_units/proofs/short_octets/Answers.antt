@@ -5,7 +5,6 @@ use Rattle.words.specs.declared.Service.TheVariants.{ShortMessage}
 use Rattle.words.specs.Judging.{verdict}
 use Rattle.stream.specs.UnitCalls.{to_octets_rules, to_octets_answers, to_octets_leaves}
 use Rattle.stream.proofs.Calls.{to-octets-passed}
-use borrow.Author.Rules.{rules}
 use Rattle.words.proofs.Clauses.{answered}
 use Rattle.from_units.proofs.short_octets.Goals as goal
 

@@ -10,7 +10,6 @@ use Rattle.words.specs.Sizes.{most_units, is_old_page}
 use Rattle.words.specs.Judging.{verdict}
 use Rattle.stream.specs.UnitCalls.{to_octets_rules, to_octets_answers, to_octets_leaves}
 use Rattle.stream.proofs.Calls.{to-octets-passed}
-use borrow.Author.Rules.{rules}
 use Rattle.from_units.proofs.units_to_octets.Lts as lts
 use Rattle.from_units.proofs.units_to_octets.Reads as reads
 use Rattle.from_units.proofs.units_to_octets.Tie as tie

@@ -2,7 +2,6 @@
 -- Assumes nothing.
 use mathlib.Core.Path.{◌∙◌, ap}
 use Prim.Native.Nat.{ℕ}
-use borrow.Author.Rules.{rules}
 use Rattle.letters.specs.Reading.{after_escape}
 use Rattle.letters.proofs.Entries.{escaped-wide}
 use Rattle.shown.proofs.Fours.{at_place, at-place, escaped-stands}
@@ -11,5 +10,5 @@ use Rattle.shown.proofs.after_escape.Goals as goal
 pub returns : goal.returns
 returns c = record {
   answer = let code = c.args.code in
-    c.unit_at.ensures ∙ ap (λ (four : ℕ). at_place four code) c.escaped_four-four.ensures ∙ at-place after_escape escaped-wide escaped-stands code;
+      c.unit_at.ensures ∙ ap (λ (four : ℕ). at_place four code) c.escaped_four-four.ensures ∙ at-place after_escape escaped-wide escaped-stands code;
 }

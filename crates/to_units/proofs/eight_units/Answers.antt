@@ -1,11 +1,11 @@
 -- The units passed are laid over the front of the eight, one after the other.
-use Prim.Native.Nat.{ℕ, ◌≤◌, ◌-◌}
+use Prim.Native.Nat.{ℕ, ◌≤◌}
 use mathlib.Core.Path.{◌≡◌, sym, ◌∙◌}
 use mathlib.Core.List.{List}
 use native.Mathlib.Omega.{arith}
 use lib.ListN.{length, take, drop, replicate, length-drop, length-replicate, drop_of_length-le}
 use lib.Seq.{length-take-le, get_or-drop}
-use Rattle.lists.proofs.Laid.{Laying, lay-none, lay-front, lay-end, laid-full}
+use Rattle.lists.proofs.Laid.{lay-none, lay-front, lay-end, laid-full}
 use Rattle.stream.specs.Ucs2.{octet_units}
 use Rattle.stream.proofs.UnitOctets.{octet-units-length}
 use borrow.Author.Rules.{rules}

@@ -8,7 +8,6 @@ use mathlib.Core.Bool.{and-true}
 use native.Mathlib.Omega.{arith}
 use borrow.Author.Tests.{eq-eqb}
 use Rattle.words.specs.Sizes.{most_octets}
-use borrow.Author.Rules.{rules}
 use Rattle.to_units.proofs.fits.Lts as lts
 use Rattle.to_units.proofs.fits.Reads as reads
 use Rattle.to_units.proofs.fits.Tie as tie

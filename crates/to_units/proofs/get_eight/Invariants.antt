@@ -1,14 +1,8 @@
 -- The eight units are pasted into out, one after the other.
-use Prim.Native.Nat.{ℕ, ◌≤◌, ◌+◌, ◌-◌}
-use mathlib.Core.Path.{◌≡◌, sym, ap, ◌∙◌}
-use mathlib.Core.List.{List, ◌++◌}
-use native.Mathlib.Omega.{arith}
-use native.Mathlib.Numerals.{add-one}
-use lib.ListN.{length, take, drop, get_or, set, length-drop}
-use lib.Seq.{paste, paste-zero, paste-suc, take_all, length-take-le}
-use Rattle.stream.specs.Ucs2.{octet_units}
-use Rattle.stream.proofs.UnitOctets.{octet-units-length}
-use borrow.Author.Rules.{rules}
+use Prim.Native.Nat.{◌≤◌, ◌-◌}
+use mathlib.Core.Path.{◌≡◌}
+use lib.ListN.{length}
+use lib.Seq.{paste}
 use Rattle.to_units.proofs.get_eight.Given as goal
 
 abbrev pub invariant-loop-k : goal.invariant-loop-k

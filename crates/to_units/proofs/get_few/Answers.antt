@@ -1,11 +1,11 @@
 -- The first n units are laid over the front of out, one after the other.
-use Prim.Native.Nat.{ℕ, ◌≤◌, ◌-◌}
+use Prim.Native.Nat.{ℕ, ◌≤◌}
 use mathlib.Core.Path.{◌≡◌}
 use mathlib.Core.List.{List}
 use native.Mathlib.Omega.{arith}
-use lib.ListN.{length, take, drop, drop_of_length-le}
+use lib.ListN.{length, take, drop_of_length-le}
 use lib.Seq.{length-take-le}
-use Rattle.lists.proofs.Laid.{Laying, lay-none, lay-front, lay-end}
+use Rattle.lists.proofs.Laid.{lay-none, lay-front, lay-end}
 use Rattle.stream.specs.Ucs2.{octet_units}
 use Rattle.stream.proofs.UnitOctets.{octet-units-length}
 use borrow.Author.Rules.{rules}

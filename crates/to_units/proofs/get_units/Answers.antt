@@ -10,7 +10,6 @@ use Rattle.words.specs.declared.Filled.TheVariants.{Done}
 use Rattle.stream.specs.Ucs2.{octet_units}
 use Rattle.stream.proofs.UnitOctets.{octet-units-length}
 use Rattle.stream.proofs.Given.{Gives, given-short, given-done}
-use borrow.Author.Rules.{rules}
 use Rattle.to_units.proofs.get_units.Lts as lts
 use Rattle.to_units.proofs.get_units.Reads as reads
 use Rattle.to_units.proofs.get_units.Tie as tie
@@ -32,7 +31,7 @@ done c left e =
     given-done (take a.n (octet_units a.octets.now)) a.out.now (sym (size c.before.before.before)) (omega (arith, size c.before.before.before)) e
 
 pub returns-then-n-lt8 : goal.returns-then-n-lt8
-returns-then-n-lt8 c = answered (done c.before.before.before.before.before.before c.get_few.new.out.1.0 c.get_few.ensures)
+returns-then-n-lt8 c = answered (done c.before.before.before.before.before.before c.get_few.new.out c.get_few.ensures)
 
 pub returns-else-n-lt8 : goal.returns-else-n-lt8
-returns-else-n-lt8 c = answered (done c.before.before.before.before.before.before c.get_many.new.out.1.0 c.get_many.ensures)
+returns-else-n-lt8 c = answered (done c.before.before.before.before.before.before c.get_many.new.out c.get_many.ensures)

@@ -1,8 +1,6 @@
 -- The units from n on are CRs, so that the first n decide what is left.
 -- Assumes nothing.
-use Prim.Native.Nat.{◌≤◌}
-use lib.ListN.{length}
-use Rattle.lists.proofs.Closing.{FilledFrom, filled-end, filled-down, filled-here, filled-whole}
+use Rattle.lists.proofs.Closing.{filled-end, filled-down, filled-here, filled-whole}
 use borrow.Author.Rules.{rules}
 use Rattle.to_units.proofs.kept.Goals as goal
 
@@ -12,7 +10,7 @@ loop-n-init c = (search rules, filled-end 13 c.args.units.now)
 pub returns-then-units-n-ne13 : goal.returns-then-units-n-ne13
 returns-then-units-n-ne13 c = record {
   answer = let a = c.args in
-    filled-here 13 a.units.now c.loop-n.n c.loop-n.invariant.1 (search rules) c.loop-n.invariant.0 c.if-units-n-ne13.true;
+      filled-here 13 a.units.now c.loop-n.n c.loop-n.invariant.1 (search rules) c.loop-n.invariant.0 c.if-units-n-ne13.true;
 }
 
 pub loop-n-preserved : goal.loop-n-preserved
@@ -22,5 +20,5 @@ loop-n-preserved c = let a = c.args in
 pub returns : goal.returns
 returns c = record {
   answer = let a = c.args in
-    filled-whole 13 a.units.now c.loop-n.n c.loop-n.invariant.1 (search rules);
+      filled-whole 13 a.units.now c.loop-n.n c.loop-n.invariant.1 (search rules);
 }

@@ -2,8 +2,7 @@
 -- Assumes nothing.
 use Prim.Native.Nat.{◌≤◌}
 use lib.ListN.{length}
-use Rattle.lists.proofs.Closing.{FilledFrom, filled-end, filled-down, filled-here, filled-whole}
-use borrow.Author.Rules.{rules}
+use Rattle.lists.proofs.Closing.{FilledFrom}
 use Rattle.to_units.proofs.kept.Given as goal
 
 abbrev pub invariant-loop-n : goal.invariant-loop-n

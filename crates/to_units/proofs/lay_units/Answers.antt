@@ -1,13 +1,12 @@
 -- The units that there is room for are laid over the front of out, one after the other. Assumes nothing.
-use Prim.Native.Nat.{ℕ, ◌≤◌, ◌-◌}
+use Prim.Native.Nat.{ℕ, ◌≤◌}
 use mathlib.Core.Path.{◌≡◌, sym, ap, ◌∙◌}
-use mathlib.Core.Logic.{⊎_elim}
 use mathlib.Core.List.{List}
 use native.Mathlib.Omega.{arith}
-use lib.ListN.{length, take, drop, drop_of_length-le}
+use lib.ListN.{length, take, drop_of_length-le}
 use lib.Seq.{take_all, length-take-le}
 use Rattle.lists.specs.Lists.{laid}
-use Rattle.lists.proofs.Laid.{Laying, lay-none, lay-front, lay-end}
+use Rattle.lists.proofs.Laid.{lay-none, lay-front, lay-end}
 use Rattle.stream.specs.Ucs2.{octet_units}
 use Rattle.stream.proofs.UnitOctets.{octet-units-length}
 use borrow.Author.Rules.{rules}

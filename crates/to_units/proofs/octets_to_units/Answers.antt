@@ -4,7 +4,6 @@ use mathlib.Core.Path.{◌≡◌, refl, sym, ap, ◌∙◌, subst}
 use mathlib.Core.Bool.{true, false}
 use mathlib.Core.List.{List}
 use native.Mathlib.Omega.{arith}
-use borrow.Author.Tests.{not-true, not-false}
 use lib.ListN.{length, take}
 use lib.Seq.{take_all}
 use Rattle.words.specs.declared.Service.{Service}
@@ -16,7 +15,6 @@ use Rattle.stream.specs.UnitCalls.{units_fit, to_units_rules, to_units_answers, 
 use Rattle.stream.proofs.Given.{Gives}
 use Rattle.stream.proofs.UnitOctets.{octet-units-length}
 use Rattle.stream.proofs.Calls.{to-units-passed, fit-units}
-use borrow.Author.Rules.{rules}
 use Rattle.to_units.proofs.octets_to_units.Lts as lts
 use Rattle.to_units.proofs.octets_to_units.Reads as reads
 use Rattle.to_units.proofs.octets_to_units.Tie as tie
@@ -26,7 +24,7 @@ use Rattle.to_units.proofs.octets_to_units.Goals as goal
 pub returns-then-not-fits : goal.returns-then-not-fits
 unfolding to_units_rules to_units_answers to_units_leaves verdict
 returns-then-not-fits c = let a = c.args in
-    let wrong : units_fit a.service (length a.octets.now) a.count ≡ false = sym c.fits.ensures ∙ not-true c.fits.result c.if-not-fits.true in
+    let wrong : units_fit a.service (length a.octets.now) a.count ≡ false = sym c.fits.ensures ∙ c.if-not-fits.true in
     answered
     (simp wrong (refl, refl))
 
@@ -35,7 +33,7 @@ fit : (c : lts.Else1 tie.the-claims reads.Pre reads.Post tie.handed_clauses) (se
     → let a = c.args in units_fit service (length a.octets.now) a.count ≡ true
 fit c service e =
     let a = c.args in
-    ap (λ (x : Service). units_fit x (length a.octets.now) a.count) (sym e) ∙ sym c.fits.ensures ∙ not-false c.fits.result c.if-not-fits.false
+    ap (λ (x : Service). units_fit x (length a.octets.now) a.count) (sym e) ∙ sym c.fits.ensures ∙ c.if-not-fits.false
 
 -- all units that the octets hold
 all : (o : List ℕ) → take (length o / 2) (octet_units o) ≡ octet_units o
@@ -55,7 +53,7 @@ returns-in-ShortMessage c = let a = c.args in
     answered
     (rw e
     (to-units-passed ShortMessage a.octets.now a.out.now a.count (fit c.before.before.before.before.before.before ShortMessage e)
-    (subst (λ (us : List ℕ). Gives us a.out.now c.get_units.result c.get_units.new.out.1.0) (all a.octets.now) (c.get_units.ensures.answer, c.get_units.ensures.buffer))))
+    (subst (λ (us : List ℕ). Gives us a.out.now c.get_units.result c.get_units.new.out) (all a.octets.now) (c.get_units.ensures.answer, c.get_units.ensures.buffer))))
 
 pub returns-in-Broadcast : goal.returns-in-Broadcast
 returns-in-Broadcast c = let a = c.args in
@@ -64,7 +62,7 @@ returns-in-Broadcast c = let a = c.args in
     answered
     (rw e
     (to-units-passed Broadcast a.octets.now a.out.now a.count (fit c.before.before.before.before.before.before.before Broadcast e)
-    (subst (λ (x : List ℕ). Gives x a.out.now c.get_units-in-Broadcast.result c.get_units-in-Broadcast.new.out.1.0) (ap (λ (n : ℕ). take n us) c.page_kept.ensures ∙ closing-front 13 us) (c.get_units-in-Broadcast.ensures.answer, c.get_units-in-Broadcast.ensures.buffer))))
+    (subst (λ (x : List ℕ). Gives x a.out.now c.get_units-in-Broadcast.result c.get_units-in-Broadcast.new.out) (ap (λ (n : ℕ). take n us) c.page_kept.ensures ∙ closing-front 13 us) (c.get_units-in-Broadcast.ensures.answer, c.get_units-in-Broadcast.ensures.buffer))))
 
 pub returns-in-Ussd : goal.returns-in-Ussd
 returns-in-Ussd c = let a = c.args in
@@ -72,7 +70,7 @@ returns-in-Ussd c = let a = c.args in
     answered
     (rw e
     (to-units-passed Ussd a.octets.now a.out.now a.count (fit c.before.before.before.before.before.before Ussd e)
-    (subst (λ (us : List ℕ). Gives us a.out.now c.get_units-in-Ussd.result c.get_units-in-Ussd.new.out.1.0) (all a.octets.now) (c.get_units-in-Ussd.ensures.answer, c.get_units-in-Ussd.ensures.buffer))))
+    (subst (λ (us : List ℕ). Gives us a.out.now c.get_units-in-Ussd.result c.get_units-in-Ussd.new.out) (all a.octets.now) (c.get_units-in-Ussd.ensures.answer, c.get_units-in-Ussd.ensures.buffer))))
 
 pub returns-in-OldPage : goal.returns-in-OldPage
 unfolding to_units_rules to_units_answers to_units_leaves verdict

@@ -1,13 +1,9 @@
 -- The units from n on are 000D, so that the first n decide what is left.
-use Prim.Native.Nat.{ℕ, ◌≤◌}
-use mathlib.Core.Path.{◌≡◌, sym, ◌∙◌, subst}
-use mathlib.Core.List.{List}
-use native.Mathlib.Omega.{arith}
+use Prim.Native.Nat.{◌≤◌}
+use mathlib.Core.Path.{◌≡◌}
 use lib.ListN.{length}
-use Rattle.lists.proofs.Closing.{FilledFrom, filled-end, filled-down, filled-here, filled-whole}
+use Rattle.lists.proofs.Closing.{FilledFrom}
 use Rattle.stream.specs.Ucs2.{octet_units}
-use Rattle.stream.proofs.UnitOctets.{octet-units-length}
-use borrow.Author.Rules.{rules}
 use Rattle.to_units.proofs.page_kept.Given as goal
 
 abbrev pub invariant-loop-n : goal.invariant-loop-n

@@ -1,10 +1,9 @@
 -- The units are laid over the front of out, one after the other.
 -- Assumes nothing.
-use Prim.Native.Nat.{◌≤◌, ◌-◌}
 use mathlib.Core.Path.{refl}
 use native.Mathlib.Omega.{arith}
-use lib.ListN.{length, drop, drop_of_length-le}
-use Rattle.lists.proofs.Laid.{Laying, lay-none, lay-rest, lay-one, lay-end}
+use lib.ListN.{drop_of_length-le}
+use Rattle.lists.proofs.Laid.{lay-none, lay-rest, lay-one, lay-end}
 use Rattle.stream.proofs.Given.{given-short, given-done}
 use borrow.Author.Rules.{rules}
 use Rattle.words.proofs.Clauses.{answered}

@@ -1,12 +1,8 @@
 -- The units are laid over the front of out, one after the other.
 -- Assumes nothing.
 use Prim.Native.Nat.{◌≤◌, ◌-◌}
-use mathlib.Core.Path.{refl}
-use native.Mathlib.Omega.{arith}
-use lib.ListN.{length, drop, drop_of_length-le}
-use Rattle.lists.proofs.Laid.{Laying, lay-none, lay-rest, lay-one, lay-end}
-use Rattle.stream.proofs.Given.{given-short, given-done}
-use borrow.Author.Rules.{rules}
+use lib.ListN.{length, drop}
+use Rattle.lists.proofs.Laid.{Laying}
 use Rattle.to_units.proofs.store.Given as goal
 
 abbrev pub invariant-loop-i : goal.invariant-loop-i

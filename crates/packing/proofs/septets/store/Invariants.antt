@@ -1,0 +1,11 @@
+-- The first n elements are laid over the front of out, one after the other.
+use Prim.Native.Nat.{◌≤◌, ◌-◌}
+use lib.ListN.{take, drop}
+use Rattle.lists.proofs.Laid.{Laying}
+use Rattle.packing.proofs.septets.store.Given as goal
+
+abbrev pub invariant-loop-i : goal.invariant-loop-i
+invariant-loop-i l = (l.i ≤ l.n) × Laying l.initial.out (take l.n l.array) (drop l.i (take l.n l.array)) l.i l.out
+
+abbrev pub decreases-loop-i : goal.decreases-loop-i
+decreases-loop-i l = l.n - l.i

@@ -1,0 +1,9 @@
+-- `to_text::septets_to_text` meets its contract: `read_text` is told to read the present alphabet.
+-- Assumes nothing.
+use Rattle.letters.specs.Reading.{read_as}
+use Rattle.to_text.proofs.septets_to_text.Goals as goal
+
+pub returns : goal.returns
+unfolding read_as
+returns c =
+    record { answer = c.read_text.ensures.answer; buffer = c.read_text.ensures.buffer }
