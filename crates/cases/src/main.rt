@@ -6,9 +6,9 @@ mod reading;
 mod values;
 
 use answers::{Answer, ReadAnswer};
-use libc::{STDIN_FILENO, STDOUT_FILENO};
 use page_answers::{Block, BlockHeader, JoinAnswer, PageAnswer, PagesAnswer};
 use printed::put;
+use std::io::{Input, Read};
 use values::{Values, end_at, more, part, plain, within, within_units};
 use wikuay::meters::{MeterAnswer, MeterNumbers};
 use wikuay::{broadcasts, meters};
@@ -23,8 +23,15 @@ struct Totals {
     len: usize,
 }
 
-fn say(words: &[u8]) {
-    io::write_all(STDOUT_FILENO, words);
+// Words that cannot be written are lost: their reader has gone away.
+fn say(rt: &impl Print, words: &[u8]) {
+    let _ = rt.write_all(words);
+}
+
+fn say_number(rt: &impl Print, n: u64) {
+    let mut digits = [0u8; 20];
+    let k = io::decimal(n, &mut digits);
+    say(rt, &digits[..k]);
 }
 
 // One more, up to a number that no input reaches.
@@ -32,10 +39,10 @@ fn next(n: u64) -> u64 {
     if n < 18446744073709551615 { n + 1 } else { n }
 }
 
-fn say_line(number: u64, words: &[u8]) {
-    say(b"line ");
-    io::print_decimal(STDOUT_FILENO, number);
-    say(words);
+fn say_line(rt: &impl Print, number: u64, words: &[u8]) {
+    say(rt, b"line ");
+    say_number(rt, number);
+    say(rt, words);
 }
 
 fn is_label(c: u8) -> bool {
@@ -366,7 +373,7 @@ fn spelled(
     let mut again = [0u8; 16385];
     let n = values::put_by(&mut again, pattern, values, octets, units, list);
     let k = within(n, &again);
-    if check::same(part(text, 0, k), &again[..k]) {
+    if part(text, 0, k) == &again[..k] {
         k
     } else {
         0
@@ -383,17 +390,17 @@ fn is_answer(pattern: &[u8], text: &[u8]) -> bool {
     0 < n && n == text.len()
 }
 
-fn report(label: &[u8], expected: &[u8], came: &[u8]) {
-    say(label);
-    say(b": expected ");
-    say(expected);
-    say(b"; came ");
-    say(came);
-    say(b"\n");
+fn report(rt: &impl Print, label: &[u8], expected: &[u8], came: &[u8]) {
+    say(rt, label);
+    say(rt, b": expected ");
+    say(rt, expected);
+    say(rt, b"; came ");
+    say(rt, came);
+    say(rt, b"\n");
 }
 
 // Runs the case in a line, and answers whether it agrees (0), differs (1), or is none (2). Where it differs, it says so.
-fn judge_case(patterns: &[u8], line: &[u8], came: &mut [u8]) -> usize {
+fn judge_case(rt: &impl Print, patterns: &[u8], line: &[u8], came: &mut [u8]) -> usize {
     let label = label_end(line);
     let text = part(line, more(label), line.len());
     if label == 0 {
@@ -416,32 +423,32 @@ fn judge_case(patterns: &[u8], line: &[u8], came: &mut [u8]) -> usize {
     let expected = part(text, at, text.len());
     let n = run(call, given, &octets, &units, &counts, answer, came);
     let k = within(n, came);
-    if check::same(expected, &came[..k]) {
+    if expected == &came[..k] {
         return 0;
     }
     if !is_answer(answer, expected) {
         return 2;
     }
-    report(part(line, 0, label), expected, &came[..k]);
+    report(rt, part(line, 0, label), expected, &came[..k]);
     1
 }
 
 // Runs the case in a line, and answers whether it agrees.
-fn judge(patterns: &[u8], line: &[u8], number: u64, came: &mut [u8]) -> bool {
+fn judge(rt: &impl Print, patterns: &[u8], line: &[u8], number: u64, came: &mut [u8]) -> bool {
     if 16384 < line.len() {
-        say_line(number, b": longer than 16384 characters\n");
+        say_line(rt, number, b": longer than 16384 characters\n");
         return false;
     }
-    let judged = judge_case(patterns, line, came);
+    let judged = judge_case(rt, patterns, line, came);
     if judged == 2 {
-        say_line(number, b": not a case\n");
+        say_line(rt, number, b": not a case\n");
     }
     judged == 0
 }
 
 // Runs what stands in the line buffer, if that is a case: an empty line and a comment are none. At the end of the input that is a line
 // without a line feed.
-fn end_line(patterns: &[u8], line: &[u8], came: &mut [u8], t: Totals) -> Totals {
+fn end_line(rt: &impl Print, patterns: &[u8], line: &[u8], came: &mut [u8], t: Totals) -> Totals {
     let number = next(t.lines);
     let n = within(t.len, line);
     let mut total = t;
@@ -454,81 +461,96 @@ fn end_line(patterns: &[u8], line: &[u8], came: &mut [u8], t: Totals) -> Totals 
         return total;
     }
     total.cases = next(t.cases);
-    if !judge(patterns, &line[..n], number, came) {
+    if !judge(rt, patterns, &line[..n], number, came) {
         total.differ = next(t.differ);
     }
     total
 }
 
 // Takes in one octet: a line feed closes a line.
-fn take_in(patterns: &[u8], c: u8, line: &mut [u8], came: &mut [u8], t: Totals) -> Totals {
+fn take_in(
+    rt: &impl Print,
+    patterns: &[u8],
+    c: u8,
+    line: &mut [u8],
+    came: &mut [u8],
+    t: Totals,
+) -> Totals {
     let one = [c];
     let mut total = t;
     if c == 10 {
-        return end_line(patterns, line, came, t);
+        return end_line(rt, patterns, line, came, t);
     }
     total.len = put(line, t.len, &one);
     total
 }
 
 // Takes in what was read.
-fn feed(patterns: &[u8], chunk: &[u8], line: &mut [u8], came: &mut [u8], totals: Totals) -> Totals {
+fn feed(
+    rt: &impl Print,
+    patterns: &[u8],
+    chunk: &[u8],
+    line: &mut [u8],
+    came: &mut [u8],
+    totals: Totals,
+) -> Totals {
     let mut t = totals;
     for i in 0..chunk.len() {
-        t = take_in(patterns, chunk[i], line, came, t);
+        t = take_in(rt, patterns, chunk[i], line, came, t);
     }
     t
 }
 
 // A failed read is a case that differs: what was not read was not run.
-fn unread(t: Totals) -> Totals {
+fn unread(rt: &impl Print, t: Totals) -> Totals {
     let mut total = t;
-    say(b"standard input cannot be read\n");
+    say(rt, b"standard input cannot be read\n");
     total.cases = next(t.cases);
     total.differ = next(t.differ);
     total
 }
 
-// Reads to the end. A proved loop has to end, and nothing says that the input does: so it counts its turns down, from a number
-// that no run uses up.
-fn feed_all(patterns: &[u8], chunk: &mut [u8], line: &mut [u8], came: &mut [u8]) -> Totals {
+// Reads to the end. A proved loop has to end, and nothing says that the input does: so it counts its turns, up to a number
+// that no run reaches.
+fn feed_all(
+    rt: &(impl Input + Print),
+    patterns: &[u8],
+    chunk: &mut [u8],
+    line: &mut [u8],
+    came: &mut [u8],
+) -> Totals {
     let mut t = Totals {
         lines: 0,
         cases: 0,
         differ: 0,
         len: 0,
     };
-    let mut turns = u64::MAX;
-    while turns > 0 {
-        let got = libc::read(STDIN_FILENO, chunk);
-        if got < 0 {
-            return unread(t);
+    let mut input = rt.reader();
+    for _ in 0..u64::MAX {
+        match input.read(chunk) {
+            Ok(0) => return t,
+            Ok(n) => t = feed(rt, patterns, &chunk[..n], line, came, t),
+            Err(_) => return unread(rt, t),
         }
-        if got == 0 {
-            return t;
-        }
-        let n = io::count(got, chunk);
-        t = feed(patterns, &chunk[..n], line, came, t);
-        turns -= 1;
     }
     t
 }
 
-fn main() {
+fn main(rt: HostRuntime) {
     let mut chunk = io::large_buffer();
     let mut line = [0u8; 16385];
     let mut came = [0u8; 20480];
     // Of each call, in the order of their numbers: its name and inputs, and its answer.
     let patterns =
         b"read-coding service=S coding=C : |refusal=F position=P reading=R|write-coding service=S reading=R : |refusal=F position=P coding=C|holds-text reading=R : |refusal=F position=P holds=H|pack service=S septets=O room=M : |refusal=F position=P written=W count=N out=O|unpack service=S count=N octets=O room=M : |refusal=F position=P written=W out=O|text-to-septets text=U room=M : |refusal=F position=P written=W out=O|septets-to-text septets=O room=M : |refusal=F position=P written=W out=U|read-message service=S coding=C count=N octets=O room=M : |refusal=F position=P written=W reading=R out=U|write-message service=S reading=R text=U room=M : |refusal=F position=P written=W count=N coding=C out=O|read-header block=B : |sequence=Q identifier=I coding=C total=T number=K|count-pages reading=R text=U : |refusal=F position=P pages=G|build-page sequence=Q identifier=I reading=R text=U number=K : |refusal=F position=P pages=G block=B|write-pages sequence=Q identifier=I reading=R text=U room=M : |refusal=F position=P written=W pages=G out=O|join-pages octets=O room=M : |refusal=F position=P written=W reading=R sequence=Q identifier=I pages=G out=U|new-meter service=S : |refusal=F position=P left=L service=S used=E|room-left service=S used=E : |refusal=F position=P left=L service=S used=E|unit-added service=S used=E unit=V : |refusal=F position=P left=L service=S used=E|unit-taken-back service=S used=E unit=V : |refusal=F position=P left=L service=S used=E|meter-cleared service=S used=E : |refusal=F position=P left=L service=S used=E|read-part coding=C count=N mark=A octets=O room=M : |refusal=F position=P written=W reading=R numbers=J out=U|count-parts reading=R text=U times=X : |refusal=F position=P parts=G|write-part reading=R reference=C text=U times=X number=K room=M : |refusal=F position=P written=W mark=A count=N coding=C parts=G out=O|write-parts reading=R reference=C text=U times=X room=M list=Y : |refusal=F position=P written=W mark=A coding=C parts=G out=O sizes=Z|join-parts coding=C counts=Z octets=O room=M : |refusal=F position=P written=W reading=R reference=C parts=G out=U|";
-    let t = feed_all(patterns, &mut chunk, &mut line, &mut came);
+    let t = feed_all(&rt, patterns, &mut chunk, &mut line, &mut came);
     let total = if t.len == 0 {
         t
     } else {
-        end_line(patterns, &line, &mut came, t)
+        end_line(&rt, patterns, &line, &mut came, t)
     };
-    io::print_decimal(STDOUT_FILENO, total.cases);
-    say(b" cases, ");
-    io::print_decimal(STDOUT_FILENO, total.differ);
-    say(b" differ\n");
+    say_number(&rt, total.cases);
+    say(&rt, b" cases, ");
+    say_number(&rt, total.differ);
+    say(&rt, b" differ\n");
 }

@@ -15,31 +15,35 @@ mod verbs;
 ghost use Rattle.io.specs.Counts.{IsPrefixLen};
 
 use asked::Job;
-use libc::{STDIN_FILENO, STDOUT_FILENO};
 use printed::put;
+use std::env::{Env, FillError};
+use std::io::{Input, Read, Result};
 
-fn say(words: &[u8]) {
-    io::write_all(STDOUT_FILENO, words);
+// Words that cannot be written are lost: their reader has gone away.
+fn say(rt: &impl Print, words: &[u8]) {
+    let _ = rt.write_all(words);
 }
 
 // The script tells this end from every answer.
-fn unread() {
-    say(b"cannot: standard input cannot be read\n");
+fn unread(rt: &impl Print) {
+    say(rt, b"cannot: standard input cannot be read\n");
 }
 
 // Puts the arguments into the line, with an octet 0 between them, and answers how long that is; the whole line is too long.
-fn gather(line: &mut [u8]) -> usize
+fn gather(rt: &impl Env, line: &mut [u8]) -> usize
     ensures { IsPrefixLen result line.new }
 {
     let mut word = [0u8; asked::MOST];
     let mut at: usize = 0;
-    for i in 1..os::arg_count() {
-        let n = os::arg(i, &mut word);
-        if os::errno() != 0 {
-            return tell::within(1000000, line);
+    for i in 1..usize::MAX {
+        match rt.arg(i, &mut word) {
+            Ok(n) => {
+                let from = tell::gap(line, at, i == 1, 0);
+                at = put(line, from, &word[..n]);
+            }
+            Err(FillError::NotPresent) => break,
+            Err(FillError::TooLong) => return tell::within(1000000, line),
         }
-        let from = tell::gap(line, at, i == 1, 0);
-        at = put(line, from, &word[..n]);
     }
     tell::within(at, line)
 }
@@ -61,32 +65,56 @@ fn without_end(text: &[u8], n: usize) -> usize {
     if k < n { without(text, k, 13) } else { n }
 }
 
+// Reads until the buffer is full, the input ends or a read fails, and answers how much stands at its front.
+fn read_full(input: &mut impl Read, buf: &mut [u8]) -> usize
+    ensures { IsPrefixLen result buf.new }
+{
+    let mut done: usize = 0;
+    while done < buf.len() {
+        let n = input.read(&mut buf[done..]).unwrap_or(0);
+        if n == 0 {
+            break;
+        }
+        done += n;
+    }
+    done
+}
+
 // What one more read of standard input answers.
-fn read_more() -> isize {
+fn read_more(input: &mut impl Read) -> Result<usize> {
     let mut one = [0u8; 1];
-    libc::read(STDIN_FILENO, &mut one)
+    input.read(&mut one)
 }
 
 // The text of standard input, where that is asked.
-fn with_input(job: Job, text: &mut [u8]) -> Job {
+fn with_input(rt: &impl Input, job: Job, text: &mut [u8]) -> Job {
     let mut next = job;
     if 0 < job.fault || !job.input {
         return next;
     }
-    let n = io::read_full(STDIN_FILENO, text);
-    let more = read_more();
+    let mut input = rt.reader();
+    let n = read_full(&mut input, text);
+    let more = read_more(&mut input);
     next.len = without_end(text, n);
-    if 0 < more || asked::MOST < next.len {
-        next.fault = fault::LONG;
-    }
-    if more < 0 {
-        next.fault = fault::UNREAD;
+    match more {
+        Ok(k) => {
+            if 0 < k || asked::MOST < next.len {
+                next.fault = fault::LONG;
+            }
+        }
+        Err(_) => next.fault = fault::UNREAD,
     }
     next
 }
 
 // Answers a request, or answers one more than the layout in which lines are to be answered. An empty line is passed by.
-fn request(line: &[u8], number: usize, layout: usize, out: &mut [u8]) -> usize {
+fn request(
+    rt: &(impl Input + Print),
+    line: &[u8],
+    number: usize,
+    layout: usize,
+    out: &mut [u8],
+) -> usize {
     if 0 < number && line.len() == 0 {
         return 0;
     }
@@ -96,17 +124,17 @@ fn request(line: &[u8], number: usize, layout: usize, out: &mut [u8]) -> usize {
     if asked.fault == 0 && asked.verb == help::LINES {
         return tell::more(asked.layout);
     }
-    let job = with_input(asked, &mut text);
+    let job = with_input(rt, asked, &mut text);
     if job.fault == fault::UNREAD {
-        unread();
+        unread(rt);
         return 0;
     }
     let n = tell::within(job.len, &text);
     let at = tell::begin(out, job.layout, number);
-    let end = verbs::answer(out, at, job, &text[..n], &mut units);
+    let end = verbs::answer(rt, out, at, job, &text[..n], &mut units);
     let whole = tell::finish(out, end, job.layout);
     let k = tell::within(whole, out);
-    say(&out[..k]);
+    say(rt, &out[..k]);
     0
 }
 
@@ -120,10 +148,16 @@ struct Flow {
 }
 
 // Answers what stands in the line buffer, unless that is nothing.
-fn end_line(flow: Flow, layout: usize, line: &[u8], out: &mut [u8]) -> Flow {
+fn end_line(
+    rt: &(impl Input + Print),
+    flow: Flow,
+    layout: usize,
+    line: &[u8],
+    out: &mut [u8],
+) -> Flow {
     let number = tell::more(flow.lines);
     let n = tell::within(without(line, flow.len, 13), line);
-    request(&line[..n], number, layout, out);
+    request(rt, &line[..n], number, layout, out);
     Flow {
         lines: number,
         len: 0,
@@ -132,9 +166,16 @@ fn end_line(flow: Flow, layout: usize, line: &[u8], out: &mut [u8]) -> Flow {
 }
 
 // Takes in one octet: a line feed closes a line.
-fn take_in(flow: Flow, layout: usize, c: u8, line: &mut [u8], out: &mut [u8]) -> Flow {
+fn take_in(
+    rt: &(impl Input + Print),
+    flow: Flow,
+    layout: usize,
+    c: u8,
+    line: &mut [u8],
+    out: &mut [u8],
+) -> Flow {
     if c == 10 {
-        return end_line(flow, layout, line, out);
+        return end_line(rt, flow, layout, line, out);
     }
     let one = [c];
     let mut next = flow;
@@ -143,50 +184,55 @@ fn take_in(flow: Flow, layout: usize, c: u8, line: &mut [u8], out: &mut [u8]) ->
 }
 
 // Takes in what was read.
-fn feed(flow: Flow, layout: usize, chunk: &[u8], line: &mut [u8], out: &mut [u8]) -> Flow {
+fn feed(
+    rt: &(impl Input + Print),
+    flow: Flow,
+    layout: usize,
+    chunk: &[u8],
+    line: &mut [u8],
+    out: &mut [u8],
+) -> Flow {
     let mut next = flow;
     for i in 0..chunk.len() {
-        next = take_in(next, layout, chunk[i], line, out);
+        next = take_in(rt, next, layout, chunk[i], line, out);
     }
     next
 }
 
-// Answers the lines of standard input, to its end. A proved loop has to end, and nothing says that the input does: so it counts its turns
-// down, from a number that no run uses up.
-fn lines(layout: usize, line: &mut [u8], out: &mut [u8]) {
+// Answers the lines of standard input, to its end. A proved loop has to end, and nothing says that the input does: so it counts its turns,
+// up to a number that no run reaches.
+fn lines(rt: &(impl Input + Print), layout: usize, line: &mut [u8], out: &mut [u8]) {
     let mut chunk = io::large_buffer();
     let mut flow = Flow {
         lines: 0,
         len: 0,
         told: false,
     };
-    let mut turns = u64::MAX;
-    while turns > 0 {
-        let got = libc::read(STDIN_FILENO, &mut chunk);
-        let n = io::count(got, &chunk);
-        flow = feed(flow, layout, &chunk[..n], line, out);
-        turns -= 1;
-        if got <= 0 {
-            turns = 0;
-            if got < 0 {
-                unread();
+    let mut input = rt.reader();
+    for _ in 0..u64::MAX {
+        match input.read(&mut chunk) {
+            Ok(0) => break,
+            Ok(n) => flow = feed(rt, flow, layout, &chunk[..n], line, out),
+            Err(_) => {
+                unread(rt);
+                break;
             }
         }
     }
-    let last = end_line(flow, layout, line, out);
+    let last = end_line(rt, flow, layout, line, out);
     if !last.told {
-        say(b"nothing\n");
+        say(rt, b"nothing\n");
     }
 }
 
-fn main() {
+fn main(rt: HostRuntime) {
     let mut line = io::large_buffer();
     let mut out = io::large_buffer();
-    let n = gather(&mut line);
-    let flows = request(&line[..n], 0, tell::PEOPLE, &mut out);
+    let n = gather(&rt, &mut line);
+    let flows = request(&rt, &line[..n], 0, tell::PEOPLE, &mut out);
     if 0 < flows {
         let mut short = [0u8; asked::MOST + 2];
         let layout = if flows == 1 { tell::WORDS } else { tell::JSON };
-        lines(layout, &mut short, &mut out);
+        lines(&rt, layout, &mut short, &mut out);
     }
 }

@@ -1,7 +1,6 @@
 // The room left while a text is typed: the number after each of its keys.
 use crate::asked::Job;
-use crate::{asked, tell, verbs};
-use libc::STDOUT_FILENO;
+use crate::{asked, say, tell, verbs};
 use wikuay::meters;
 use wikuay::meters::{MeterAnswer, MeterNumbers};
 
@@ -20,12 +19,12 @@ struct Typing {
 
 // The keys of a text can take more room than the buffer has: what it holds goes out before it is full. Something is told behind it, which
 // closes the answer.
-fn passed_on(out: &[u8], end: usize) -> usize {
+fn passed_on(rt: &impl Print, out: &[u8], end: usize) -> usize {
     if end < 32768 {
         return end;
     }
     let n = tell::within(end, out);
-    io::write_all(STDOUT_FILENO, &out[..n]);
+    say(rt, &out[..n]);
     0
 }
 
@@ -99,6 +98,7 @@ fn told(
 
 // One more key.
 fn key(
+    rt: &impl Print,
     out: &mut [u8],
     typing: Typing,
     layout: usize,
@@ -106,7 +106,7 @@ fn key(
     unit: u16,
     text: &mut [u16],
 ) -> Typing {
-    let from = passed_on(out, typing.end);
+    let from = passed_on(rt, out, typing.end);
     let len = typing.len;
     let before = typing.meter;
     let answer = pressed(before, unit, len, last(text, len));
@@ -124,16 +124,23 @@ fn key(
 }
 
 // All keys, one after the other; answers where they end.
-fn keys(out: &mut [u8], begun: Typing, layout: usize, units: &[u16], text: &mut [u16]) -> usize {
+fn keys(
+    rt: &impl Print,
+    out: &mut [u8],
+    begun: Typing,
+    layout: usize,
+    units: &[u16],
+    text: &mut [u16],
+) -> usize {
     let mut typing = begun;
     for i in 0..units.len() {
-        typing = key(out, typing, layout, tell::more(i), units[i], text);
+        typing = key(rt, out, typing, layout, tell::more(i), units[i], text);
     }
     typing.end
 }
 
 // The size of the service, and the number after each key.
-pub(crate) fn room(out: &mut [u8], at: usize, job: Job, units: &[u16]) -> usize {
+pub(crate) fn room(rt: &impl Print, out: &mut [u8], at: usize, job: Job, units: &[u16]) -> usize {
     let mut text = [0u16; asked::MOST];
     let answer = meters::wikuay_new_meter((job.service % 4) as u32);
     let meter = answer.meter;
@@ -144,5 +151,5 @@ pub(crate) fn room(out: &mut [u8], at: usize, job: Job, units: &[u16]) -> usize 
         meter: meter,
         len: 0,
     };
-    keys(out, typing, job.layout, units, &mut text)
+    keys(rt, out, typing, job.layout, units, &mut text)
 }

@@ -488,7 +488,14 @@ fn units_of(job: Job, text: &[u8], units: &mut [u16]) -> usize {
 }
 
 // The answer to a request.
-pub(crate) fn answer(out: &mut [u8], at: usize, job: Job, text: &[u8], units: &mut [u16]) -> usize {
+pub(crate) fn answer(
+    rt: &impl Print,
+    out: &mut [u8],
+    at: usize,
+    job: Job,
+    text: &[u8],
+    units: &mut [u16],
+) -> usize {
     if 0 < job.fault {
         return complain(out, at, job, units);
     }
@@ -504,7 +511,7 @@ pub(crate) fn answer(out: &mut [u8], at: usize, job: Job, text: &[u8], units: &m
         return complain(out, at, job.fails(fault::ASCII, 0), units);
     }
     if job.verb == help::ROOM {
-        return room::room(out, at, job, &units[..k]);
+        return room::room(rt, out, at, job, &units[..k]);
     }
     if job.verb == help::PAGES {
         return broadcast::write(out, at, job, &units[..k]);
