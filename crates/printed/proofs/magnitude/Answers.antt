@@ -4,7 +4,6 @@ use mathlib.Core.Path.{◌≡◌, refl, sym, ap, ◌∙◌, subst}
 use mathlib.Core.Bool.{true, false}
 use Prim.Native.Nat.{ℕ, zero, suc, ◌+◌, ◌<◌, ◌^◌}
 use native.Mathlib.Omega.{arith}
-use borrow.Author.Rules.{rules}
 use borrow.Author.Tests.{ltb-true}
 use lib.Dec.{T}
 use lib.IntN.{ℤ, pos, negsuc, ◌+ℤ◌, ◌-ℤ◌, suc_ℤ, neg_ℤ, nat_abs, +ℤ_one, +ℤ_idl}
@@ -12,8 +11,7 @@ use lib.Signed.{mag, lt_z, non_neg}
 use mir.Syntax.{w64}
 use mir.Val.{Fits, SFits, to_z, of_z}
 use mir.Facts.{to_z-of_z}
-use Rattle.printed.proofs.magnitude.Statement.{statement}
-use Rattle.printed.proofs.magnitude.Tie as tie
+use Rattle.printed.proofs.magnitude.Goals as goal
 
 -- what is computed of a number below zero
 abbrev raised : ℤ → ℤ
@@ -59,40 +57,32 @@ facing-all (negsuc k) f t =
 at-below : (n : ℤ) → SFits w64 n → lt_z (to_z w64 (of_z w64 n)) (pos 0) ≡ true → Faced n
 at-below n f t = facing-all n f (ap (λ (z : ℤ). lt_z z (pos 0)) (sym (to_z-of_z f)) ∙ t)
 
-add-result : tie.Need-overflow-add-result
-add-result c = (at-below c.before.args.n c.before.ranges.n c.if1.true).raising
+pub overflow_add-result : goal.overflow_add-result
+overflow_add-result c = (at-below c.args.n c.ranges.n c.if-n-lt0.true).raising
 
-sub-result : tie.Need-overflow-sub-result
-sub-result c = (at-below c.before.args.n c.before.ranges.n c.if1.true).facing
+pub overflow_sub-result : goal.overflow_sub-result
+overflow_sub-result c = (at-below c.args.n c.ranges.n c.if-n-lt0.true).facing
 
-cast-result : tie.Need-overflow-cast-result
-cast-result c =
-    let a = at-below c.before.args.n c.before.ranges.n c.if1.true in
+pub overflow_cast-result : goal.overflow_cast-result
+overflow_cast-result c = let a = at-below c.args.n c.ranges.n c.if-n-lt0.true in
     (subst (λ (z : ℤ). T (non_neg z)) (sym a.came) tt, subst (λ (z : ℤ). Fits w64 (nat_abs z)) (sym a.came) (record { fits = omega (arith, a.small) }))
 
-add-result-2 : tie.Need-overflow-add-result-2
-add-result-2 c =
-    let a = at-below c.before.args.n c.before.ranges.n c.if1.true in
+pub overflow_add-result-then-n-lt0 : goal.overflow_add-result-then-n-lt0
+overflow_add-result-then-n-lt0 c = let a = at-below c.args.n c.ranges.n c.if-n-lt0.true in
     subst (λ (z : ℤ). Fits w64 (nat_abs z + 1)) (sym a.came) (record { fits = omega (arith, a.small) })
 
-returns : tie.Need-returns
-returns c =
-    let a = at-below c.before.args.n c.before.ranges.n c.if1.true in
-    ap (λ (z : ℤ). nat_abs z + 1) a.came ∙ a.one_more
+pub returns-then-n-lt0 : goal.returns-then-n-lt0
+returns-then-n-lt0 c = record {
+  answer = let a = at-below c.args.n c.ranges.n c.if-n-lt0.true in
+      ap (λ (z : ℤ). nat_abs z + 1) a.came ∙ a.one_more;
+}
 
 -- one that is not
 not-below : (n : ℤ) → SFits w64 n → lt_z n (pos 0) ≡ false → T (non_neg n) × Fits w64 (nat_abs n)
 not-below (pos a) f t = (tt, record { fits = omega (arith, f.sfits) })
 not-below (negsuc k) f t = absurd (let z : ◌≡◌ {A = ℕ} 0 1 = cc in omega arith)
 
-cast-result-2 : tie.Need-overflow-cast-result-2
-cast-result-2 c =
-    let n : ℤ = c.before.args.n in
-    let f : SFits w64 n = c.before.ranges.n in
-    subst (λ (z : ℤ). T (non_neg z) × Fits w64 (nat_abs z)) (sym (to_z-of_z f)) (not-below n f (ap (λ (z : ℤ). lt_z z (pos 0)) (sym (to_z-of_z f)) ∙ c.if1.false))
-
-returns-2 : tie.Need-returns-2
-returns-2 c = search rules
-
-pub magnitude-spec : {M : Type 1} → statement M
-magnitude-spec = tie.close (tie.spec add-result sub-result cast-result add-result-2 returns cast-result-2 returns-2)
+pub overflow_cast-result-2 : goal.overflow_cast-result-2
+overflow_cast-result-2 c = let n : ℤ = c.args.n in
+    let f : SFits w64 n = c.ranges.n in
+    subst (λ (z : ℤ). T (non_neg z) × Fits w64 (nat_abs z)) (sym (to_z-of_z f)) (not-below n f (ap (λ (z : ℤ). lt_z z (pos 0)) (sym (to_z-of_z f)) ∙ c.if-n-lt0.false))
