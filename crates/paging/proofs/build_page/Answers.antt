@@ -1,0 +1,16 @@
+-- What is settled of the reading decides, and then the text by itself. Assumes nothing.
+use mathlib.Core.Path.{sym, ◌∙◌}
+use Rattle.paging.proofs.Settled.{builds-text, builds-refused}
+use Rattle.paging.proofs.build_page.Goals as goal
+
+pub returns-in-Text : goal.returns-in-Text
+returns-in-Text c = record {
+  answer = let a = c.args in
+      c.build_text.ensures ∙ builds-text a.reading a.units.now _ (sym c.in-Text.is ∙ c.settle.ensures.answer) a.sequence a.identifier a.number;
+}
+
+pub returns-in-Refused : goal.returns-in-Refused
+returns-in-Refused c = record {
+  answer = let a = c.args in
+      c.no_page.ensures ∙ builds-refused a.reading a.units.now _ (sym c.in-Refused.is ∙ c.settle.ensures.answer) a.sequence a.identifier a.number;
+}

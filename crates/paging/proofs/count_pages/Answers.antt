@@ -1,0 +1,19 @@
+-- What is settled of the reading decides, and then the text by itself. Assumes nothing.
+use mathlib.Core.Path.{sym, ap, ◌∙◌}
+use mathlib.Core.Bool.{Bool}
+use Rattle.pages.specs.Inner.{sized_as}
+use Rattle.paging.proofs.Settled.{counts-text, counts-refused}
+use Rattle.paging.proofs.count_pages.Goals as goal
+
+pub returns-in-Text : goal.returns-in-Text
+returns-in-Text c = record {
+  answer = let a = c.args in
+      let w = sym c.in-Text.is ∙ c.settle.ensures.answer in
+      c.text_pages.ensures ∙ ap (λ (b : Bool). sized_as b a.units.now) c.ucs2.ensures.answer ∙ counts-text a.reading a.units.now _ w;
+}
+
+pub returns-in-Refused : goal.returns-in-Refused
+returns-in-Refused c = record {
+  answer = let a = c.args in
+      counts-refused a.reading a.units.now _ (sym c.in-Refused.is ∙ c.settle.ensures.answer);
+}
