@@ -2,26 +2,26 @@
 -- Assumes nothing.
 use mathlib.Core.Path.{◌≡◌, refl, sym, ap, ap₂, ◌∙◌, subst}
 use mathlib.Core.Bool.{Bool, true, false, false≢true}
-use mathlib.Core.List.{List, [], ◌∷◌, ◌++◌, append-nil, append_assoc, map}
-use Prim.Native.Nat.{ℕ, zero, suc, ◌+◌, ◌-◌, ◌*◌, ◌/◌, ◌%◌, ◌^◌, ◌≤◌, ◌<◌}
+use mathlib.Core.List.{List, [], ◌∷◌, ◌++◌, append-nil, append_assoc}
+use Prim.Native.Nat.{ℕ, ◌+◌, ◌-◌, ◌*◌, ◌/◌, ◌%◌, ◌^◌, ◌≤◌, ◌<◌}
 use native.Mathlib.Nat.{mod-lt}
 use native.Mathlib.Omega.{arith}
 use lib.Dec.{leb, lit<, lit≤}
 use borrow.Author.Tests.{lt-leb}
 use lib.Bits.{bit_and, bit_or, and_mask, or_shifted_r}
-use lib.Pow.{shl_exact, low, pow_pos}
-use lib.ListN.{length, get_or, take, drop, replicate, length-append, length-map, length-drop, take-append-drop}
+use lib.Pow.{shl_exact, pow_pos}
+use lib.ListN.{length, get_or, take, drop, length-append, take-append-drop}
 use lib.Seq.{length-take-le, take-add, drop_at, get_or-take}
 use Rattle.words.specs.declared.Service.{Service}
 use Rattle.words.specs.declared.Service.TheVariants.{ShortMessage, Broadcast, Ussd, OldPage}
 use Rattle.words.specs.Sizes.{most_septets, is_old_page}
 use Rattle.lists.specs.Lists.{first_place, laid}
-use Rattle.lists.proofs.Below.{Below, below-take, below-drop, below-append}
+use Rattle.lists.proofs.Below.{Below, below-take}
 use Rattle.lists.proofs.Places.{place_none}
 use Rattle.lists.proofs.Laid.{laid_then}
 use Rattle.stream.specs.Stream.{octets_for, packed}
-use Rattle.stream.specs.Digits.{value, digits, low_of}
-use Rattle.stream.specs.UssdPacking.{last, adds_cr, with_cr, closed, ussd_octets}
+use Rattle.stream.specs.Digits.{value, digits}
+use Rattle.stream.specs.UssdPacking.{last, with_cr, closed, ussd_octets}
 use Rattle.stream.specs.Pages.{page, page_octets}
 use Rattle.stream.specs.SeptetCalls.{octets_of}
 use Rattle.stream.specs.Groups.{left_over}

@@ -1,6 +1,4 @@
 -- By the service that is told.
-use mathlib.Core.Path.{◌≡◌}
-use borrow.Author.Rules.{rules}
 use Rattle.closing.proofs.adds_cr.Goals as goal
 
 pub returns-in-ShortMessage : goal.returns-in-ShortMessage

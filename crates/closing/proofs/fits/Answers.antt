@@ -6,7 +6,6 @@ use Rattle.stream.proofs.Calls.{exact-holds, exact-fails, most-holds, most-fails
 use lib.Dec.{eqb}
 use Prim.Native.Nat.{ℕ}
 use Rattle.words.specs.Sizes.{most_septets, most_octets}
-use borrow.Author.Rules.{rules}
 use Rattle.closing.proofs.fits.Goals as goal
 
 -- the size of the service that is told
@@ -16,15 +15,15 @@ size most told service given e = given ∙ ap most_octets e
 pub returns-then-count-most_septets : goal.returns-then-count-most_septets
 returns-then-count-most_septets c = record {
   answer = let e = c.in-ShortMessage.is in
-    rw e
-    (ap (eqb c.args.octets) c.octets_for.ensures.answer
-    ∙ most-holds _ c.most_septets.result 160 _ (c.most_septets.ensures.answer ∙ ap most_septets e) c.if-count-most_septets.true);
+      rw e
+      (ap (eqb c.args.octets) c.octets_for.ensures.answer
+      ∙ most-holds _ c.most_septets.result 160 _ (c.most_septets.ensures.answer ∙ ap most_septets e) c.if-count-most_septets.true);
 }
 
 pub returns-else-count-most_septets : goal.returns-else-count-most_septets
 returns-else-count-most_septets c = record {
   answer = let e = c.in-ShortMessage.is in
-    rw e (most-fails _ c.most_septets.result 160 _ (c.most_septets.ensures.answer ∙ ap most_septets e) c.if-count-most_septets.false);
+      rw e (most-fails _ c.most_septets.result 160 _ (c.most_septets.ensures.answer ∙ ap most_septets e) c.if-count-most_septets.false);
 }
 
 pub returns-then-octets-most : goal.returns-then-octets-most

@@ -1,7 +1,5 @@
 -- The septets from n on are filling, so that the first n decide what is left.
-use Prim.Native.Nat.{ℕ, ◌≤◌}
-use lib.ListN.{length}
-use Rattle.lists.proofs.Closing.{FilledFrom, filled-end, filled-down, filled-here, filled-whole}
+use Rattle.lists.proofs.Closing.{filled-end, filled-down, filled-here, filled-whole}
 use borrow.Author.Rules.{rules}
 use Rattle.closing.proofs.kept.Goals as goal
 

@@ -1,8 +1,7 @@
 -- The septets from n on are filling, so that the first n decide what is left.
-use Prim.Native.Nat.{ℕ, ◌≤◌}
+use Prim.Native.Nat.{◌≤◌}
 use lib.ListN.{length}
-use Rattle.lists.proofs.Closing.{FilledFrom, filled-end, filled-down, filled-here, filled-whole}
-use borrow.Author.Rules.{rules}
+use Rattle.lists.proofs.Closing.{FilledFrom}
 use Rattle.closing.proofs.kept.Given as goal
 
 abbrev pub invariant-loop-n : goal.invariant-loop-n

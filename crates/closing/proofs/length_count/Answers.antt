@@ -1,5 +1,4 @@
 -- The count of each service, by the service that is told.
-use borrow.Author.Rules.{rules}
 use Rattle.closing.proofs.length_count.Goals as goal
 
 pub returns-in-ShortMessage : goal.returns-in-ShortMessage

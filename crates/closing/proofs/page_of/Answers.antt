@@ -1,12 +1,11 @@
 -- The septets are laid over the front of the CRs, one after the other.
-use Prim.Native.Nat.{ℕ, ◌≤◌, ◌<◌, ◌-◌, ◌+◌}
+use Prim.Native.Nat.{ℕ, ◌≤◌}
 use mathlib.Core.Path.{◌≡◌, refl, sym, ap, ◌∙◌}
-use mathlib.Core.Logic.{⊎_elim}
 use mathlib.Core.List.{List}
 use native.Mathlib.Omega.{arith}
-use lib.ListN.{length, get_or, set, take, drop, replicate, length-replicate, drop_of_length-le}
+use lib.ListN.{length, set, take, replicate, length-replicate, drop_of_length-le}
 use lib.Seq.{take_all, length-take-le, get_or-take}
-use Rattle.lists.proofs.Laid.{Laying, lay-none, lay-rest, lay-one, lay-moved, lay-end}
+use Rattle.lists.proofs.Laid.{lay-none, lay-rest, lay-one, lay-moved, lay-end}
 use Rattle.stream.specs.Pages.{page}
 use borrow.Author.Rules.{rules}
 use Rattle.closing.proofs.page_of.Goals.{else-septets-lt93, then-septets-lt93}
@@ -33,5 +32,5 @@ pub returns : goal.returns
 unfolding page
 returns c = record {
   answer =
-    lay-end c.loop-i.invariant.1 (drop_of_length-le (take 93 c.args.septets.now) {i = c.loop-i.i} (omega (arith, c.loop-i.invariant, c.loop-i-test.false)));
+      lay-end c.loop-i.invariant.1 (drop_of_length-le (take 93 c.args.septets.now) {i = c.loop-i.i} (omega (arith, c.loop-i.invariant, c.loop-i-test.false)));
 }

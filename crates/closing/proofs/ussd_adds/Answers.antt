@@ -1,7 +1,7 @@
 -- The tests are those of the definition, one after the other.
 use mathlib.Core.Path.{◌≡◌, sym, ap, ◌∙◌}
 use mathlib.Core.List.{List}
-use Prim.Native.Nat.{ℕ, ◌-◌, ◌%◌, ◌<◌, ◌≤◌}
+use Prim.Native.Nat.{ℕ, ◌-◌, ◌%◌}
 use native.Mathlib.Omega.{arith}
 use lib.Bits.{bit_and, and_mask}
 use lib.Dec.{eqb}
@@ -9,7 +9,6 @@ use lib.ListN.{length, get_or, length-map, get_or-map}
 use Rattle.stream.specs.Digits.{low_of}
 use Rattle.stream.specs.UssdPacking.{last}
 use Rattle.stream.proofs.Ussd.{adds-seven, adds-eight, adds-other, adds_none}
-use borrow.Author.Rules.{rules}
 use Rattle.closing.proofs.ussd_adds.Goals as goal
 
 -- there are as many low bits

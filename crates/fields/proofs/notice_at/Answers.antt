@@ -1,6 +1,5 @@
 -- `notice_at` meets its contract: its tests are the definition's. Assumes nothing.
 use borrow.Author.Tests.{eq-eqb, ne_eqb, lt-ltb, le-ltb}
-use borrow.Author.Rules.{rules}
 use Rattle.fields.proofs.notice_at.Goals as goal
 
 pub returns-then-n-eq0 : goal.returns-then-n-eq0

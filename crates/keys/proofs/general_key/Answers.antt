@@ -2,7 +2,6 @@
 use Rattle.keys.specs.Keys.{general_key}
 use native.Mathlib.Omega.{arith}
 use borrow.Author.Tests.{eq-eqb, ne_eqb}
-use borrow.Author.Rules.{rules}
 use Rattle.keys.proofs.general_key.Goals as goal
 
 pub returns-then-alphabet-eq3 : goal.returns-then-alphabet-eq3

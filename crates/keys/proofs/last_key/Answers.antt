@@ -2,7 +2,6 @@
 use Rattle.keys.specs.Keys.{last_key}
 use native.Mathlib.Omega.{arith}
 use borrow.Author.Tests.{eq-eqb, ne_eqb}
-use borrow.Author.Rules.{rules}
 use Rattle.keys.proofs.last_key.Goals as goal
 
 pub returns-then-octet-eq1 : goal.returns-then-octet-eq1

@@ -2,7 +2,6 @@
 use mathlib.Core.Path.{refl, sym, ◌∙◌}
 use borrow.Author.Tests.{lt-ltb, le-ltb}
 use Rattle.typed.proofs.Spelling.{digit-for-ranged}
-use borrow.Author.Rules.{rules}
 use Rattle.typed.proofs.digit_for.Goals as goal
 
 pub returns-then-v-lt10 : goal.returns-then-v-lt10

@@ -14,17 +14,17 @@ returns-then-c-lt58 c = record { answer = sym (digit-ranged c.args.c (search rul
 pub returns-then-c-lt65 : goal.returns-then-c-lt65
 returns-then-c-lt65 c = record {
   answer = sym (digit-ranged c.args.c (search rules)
-    ∙ simp (le-ltb _ _ c.if-c-lt48.false, le-ltb _ _ c.if-c-lt58.false, lt-ltb _ _ c.if-c-lt65.true) refl);
+      ∙ simp (le-ltb _ _ c.if-c-lt48.false, le-ltb _ _ c.if-c-lt58.false, lt-ltb _ _ c.if-c-lt65.true) refl);
 }
 
 pub returns-then-c-lt71 : goal.returns-then-c-lt71
 returns-then-c-lt71 c = record {
   answer = sym (digit-ranged c.args.c (search rules)
-    ∙ simp (le-ltb _ _ c.if-c-lt48.false, le-ltb _ _ c.if-c-lt58.false, le-ltb _ _ c.if-c-lt65.false, lt-ltb _ _ c.if-c-lt71.true) refl);
+      ∙ simp (le-ltb _ _ c.if-c-lt48.false, le-ltb _ _ c.if-c-lt58.false, le-ltb _ _ c.if-c-lt65.false, lt-ltb _ _ c.if-c-lt71.true) refl);
 }
 
 pub returns : goal.returns
 returns c = record {
   answer = sym (digit-ranged c.args.c (search rules)
-    ∙ simp (le-ltb _ _ c.if-c-lt48.false, le-ltb _ _ c.if-c-lt58.false, le-ltb _ _ c.if-c-lt65.false, le-ltb _ _ c.if-c-lt71.false) refl);
+      ∙ simp (le-ltb _ _ c.if-c-lt48.false, le-ltb _ _ c.if-c-lt58.false, le-ltb _ _ c.if-c-lt65.false, le-ltb _ _ c.if-c-lt71.false) refl);
 }

@@ -1,17 +1,12 @@
 -- The loop passes what is a digit of the base.
-use Prim.Native.Nat.{ℕ, ◌≤◌, ◌<◌, ◌-◌}
+use Prim.Native.Nat.{ℕ, ◌≤◌, ◌<◌}
 use mathlib.Core.Path.{sym, subst}
-use mathlib.Core.Bool.{Bool}
 use mathlib.Core.List.{List}
 use borrow.Author.Tests.{le-leb, lt-leb}
-use lib.Dec.{leb}
-use lib.ListN.{length}
-use Rattle.lists.proofs.Places.{Passed, passed_none, passed-more, passed_here, passed_over}
-use Rattle.typed.specs.Spelling.{digit_of}
+use Rattle.lists.proofs.Places.{passed_none, passed-more, passed_here, passed_over}
 use borrow.Author.Rules.{rules}
 use Rattle.typed.proofs.first_other.Invariants.{other}
 use Rattle.typed.proofs.first_other.Goals as goal
-
 
 pub loop-i-init : goal.loop-i-init
 loop-i-init c = (search rules, passed_none (other c.args.base) c.args.text.now)
@@ -19,7 +14,7 @@ loop-i-init c = (search rules, passed_none (other c.args.base) c.args.text.now)
 pub returns-then-base-digit_of : goal.returns-then-base-digit_of
 returns-then-base-digit_of c = record {
   answer = let s : List ℕ = c.args.text.now in
-    sym (passed_here (other c.args.base) s c.loop-i.i c.loop-i.invariant.1 (search rules) (le-leb _ _ (subst (λ (d : ℕ). c.args.base ≤ d) c.digit_of.ensures.answer c.if-base-digit_of.true)));
+      sym (passed_here (other c.args.base) s c.loop-i.i c.loop-i.invariant.1 (search rules) (le-leb _ _ (subst (λ (d : ℕ). c.args.base ≤ d) c.digit_of.ensures.answer c.if-base-digit_of.true)));
 }
 
 pub loop-i-preserved : goal.loop-i-preserved

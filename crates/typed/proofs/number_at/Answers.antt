@@ -1,5 +1,5 @@
 -- The number is that of the digits passed, and each turn puts one more below them.
-use Prim.Native.Nat.{ℕ, ◌+◌, ◌*◌, ◌^◌, ◌≤◌, ◌<◌, ◌-◌}
+use Prim.Native.Nat.{ℕ, ◌+◌, ◌*◌, ◌^◌, ◌≤◌, ◌<◌}
 use mathlib.Core.Path.{◌≡◌, sym, ap, ap₂, ◌∙◌, subst}
 use mathlib.Core.List.{List}
 use native.Mathlib.Omega.{arith}
@@ -49,6 +49,6 @@ loop-i-preserved c = let b : ℕ = c.args.base in
 
 pub returns : goal.returns
 returns c = let done : c.loop-i.i ≡ c.args.n = search rules in (
-      c.loop-i.invariant.1 ∙ ap (λ (k : ℕ). number_in c.args.base (take k (drop c.args.at c.args.text.now))) done,
-      subst (λ (k : ℕ). c.loop-i.v < 16 ^ k) done c.loop-i.invariant.2,
-    )
+  c.loop-i.invariant.1 ∙ ap (λ (k : ℕ). number_in c.args.base (take k (drop c.args.at c.args.text.now))) done,
+  subst (λ (k : ℕ). c.loop-i.v < 16 ^ k) done c.loop-i.invariant.2,
+)

@@ -5,7 +5,6 @@ use native.Mathlib.Omega.{arith}
 use borrow.Author.Tests.{lt-ltb, le-ltb}
 use lib.ListN.{length}
 use Rattle.typed.specs.Spelling.{zero_led}
-use borrow.Author.Rules.{rules}
 use Rattle.typed.proofs.padded.Goals as goal
 
 pub returns-then-text-lt2 : goal.returns-then-text-lt2

@@ -33,8 +33,8 @@ returns-then-padded c = record { answer = sym (number-led c.args.text.now (some 
 pub returns-then-first_other-n : goal.returns-then-first_other-n
 returns-then-first_other-n c = record {
   answer = let s : List ℕ = c.args.text.now in
-    sym (number-other s (some c.before.before.before.before.before) c.if-n-gt10.false (sym c.padded.ensures ∙ c.if-padded.false)
-    (only_no 10 s (subst (λ (k : ℕ). k < length s) c.first_other.ensures.answer c.if-first_other-n.true)));
+      sym (number-other s (some c.before.before.before.before.before) c.if-n-gt10.false (sym c.padded.ensures ∙ c.if-padded.false)
+      (only_no 10 s (subst (λ (k : ℕ). k < length s) c.first_other.ensures.answer c.if-first_other-n.true)));
 }
 
 -- past the tests every octet is a digit
@@ -52,15 +52,15 @@ whole c = c.number_at-v.ensures.0 ∙ ap (number_in 10) (take-length c.args.text
 pub returns-then-v-gt4294967295 : goal.returns-then-v-gt4294967295
 returns-then-v-gt4294967295 c = record {
   answer = let s : List ℕ = c.args.text.now in
-    sym (number-large s (some c.before.before.before.before.before.before.before) c.if-n-gt10.false (sym c.padded.ensures ∙ c.if-padded.false) (only_yes 10 s (digits c.before.before.before))
-    (subst (λ (v : ℕ). 4294967295 < v) (whole c.before.before) c.if-v-gt4294967295.true));
+      sym (number-large s (some c.before.before.before.before.before.before.before) c.if-n-gt10.false (sym c.padded.ensures ∙ c.if-padded.false) (only_yes 10 s (digits c.before.before.before))
+      (subst (λ (v : ℕ). 4294967295 < v) (whole c.before.before) c.if-v-gt4294967295.true));
 }
 
 pub returns : goal.returns
 returns c = record {
   answer = let s : List ℕ = c.args.text.now in
-    let fits : c.number_at-v.result < 4294967296 = search rules in
-    ap Is (mod-eq_of_lt fits ∙ whole c.before.before)
-    ∙ sym (number_is s (some c.before.before.before.before.before.before.before) c.if-n-gt10.false (sym c.padded.ensures ∙ c.if-padded.false) (only_yes 10 s (digits c.before.before.before))
-    (subst (λ (v : ℕ). v ≤ 4294967295) (whole c.before.before) c.if-v-gt4294967295.false));
+      let fits : c.number_at-v.result < 4294967296 = search rules in
+      ap Is (mod-eq_of_lt fits ∙ whole c.before.before)
+      ∙ sym (number_is s (some c.before.before.before.before.before.before.before) c.if-n-gt10.false (sym c.padded.ensures ∙ c.if-padded.false) (only_yes 10 s (digits c.before.before.before))
+      (subst (λ (v : ℕ). v ≤ 4294967295) (whole c.before.before) c.if-v-gt4294967295.false));
 }

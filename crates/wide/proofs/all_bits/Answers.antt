@@ -1,6 +1,6 @@
 -- `wide::all_bits` meets its contract: a number is at most the bits of itself and another together, so that each septet passed is at most the bits gathered.
 -- Assumes nothing.
-use Prim.Native.Nat.{ℕ, ◌≤◌, ◌-◌, ◌<◌}
+use Prim.Native.Nat.{ℕ, ◌≤◌}
 use native.Mathlib.Decide.{dec_le}
 use native.Mathlib.Omega.{arith}
 use borrow.Author.Count.{below_none, below_more}

@@ -1,12 +1,7 @@
 -- `wide::all_bits` meets its contract: a number is at most the bits of itself and another together, so that each septet passed is at most the bits gathered.
 -- Assumes nothing.
 use Prim.Native.Nat.{ℕ, ◌≤◌, ◌-◌, ◌<◌}
-use native.Mathlib.Decide.{dec_le}
-use native.Mathlib.Omega.{arith}
-use borrow.Author.Count.{below_none, below_more}
-use lib.ListN.{length, get_or, get_or-eq_default}
-use lib.Bits.{bit_or, or_add_and, and_le_l, and_le_r}
-use borrow.Author.Rules.{rules}
+use lib.ListN.{length, get_or}
 use Rattle.wide.proofs.all_bits.Given as goal
 
 abbrev pub invariant-loop-i : goal.invariant-loop-i

@@ -1,14 +1,9 @@
 -- `wide::first_wide` meets its contract: where no bit above the seventh is set every septet is below 128; else the loop passes those that are.
 -- Assumes nothing.
-use Prim.Native.Nat.{ℕ, ◌≤◌, ◌-◌}
-use mathlib.Core.Path.{sym}
-use mathlib.Core.List.{List}
-use native.Mathlib.Omega.{arith}
-use borrow.Author.Tests.{le-leb, lt-leb}
+use Prim.Native.Nat.{◌≤◌, ◌-◌}
 use lib.Dec.{leb}
-use lib.ListN.{length, get_or}
-use Rattle.lists.proofs.Places.{Passed, passed_none, passed-more, passed_here, passed_over, place_none}
-use borrow.Author.Rules.{rules}
+use lib.ListN.{length}
+use Rattle.lists.proofs.Places.{Passed}
 use Rattle.wide.proofs.first_wide.Given as goal
 
 abbrev pub invariant-loop-i : goal.invariant-loop-i

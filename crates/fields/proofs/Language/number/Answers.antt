@@ -1,5 +1,4 @@
 -- `Language::number` meets its contract: each arm answers the number of the variant that it matches. Assumes nothing.
-use borrow.Author.Rules.{rules}
 use Rattle.fields.proofs.Language.number.Goals as goal
 
 pub returns-in-German : goal.returns-in-German

@@ -1,7 +1,6 @@
 -- `Letters::named` meets its contract: one letter after the other. Assumes nothing.
 use Rattle.fields.specs.Letters.{are_letters}
 use mathlib.Core.Path.{sym, ◌∙◌}
-use borrow.Author.Rules.{rules}
 use Rattle.fields.proofs.Letters.named.Goals as goal
 
 pub returns-then-is_letter : goal.returns-then-is_letter

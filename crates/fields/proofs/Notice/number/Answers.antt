@@ -1,5 +1,4 @@
 -- `Notice::number` meets its contract: the parts of a variant have the numbers that `flag` and `Kind::number` give. Assumes nothing.
-use borrow.Author.Rules.{rules}
 use Rattle.fields.proofs.Notice.number.Goals as goal
 
 pub returns-in-Discard : goal.returns-in-Discard
