@@ -5,8 +5,7 @@ use mathlib.Core.Bool.{Bool, true, false, not, ◌&&◌}
 use borrow.Author.Tests.{eq-eqb, ne_eqb, le-leb, lt-leb, ltb-true, ltb-false}
 use lib.Dec.{eqb, leb, ltb}
 use Rattle.filling.specs.Numbered.{lacks}
-use Rattle.part_order.proofs.belongs.Statement.{statement}
-use Rattle.part_order.proofs.belongs.Tie as tie
+use Rattle.part_order.proofs.belongs.Goals as goal
 
 -- the tests in a row: the two references, the two totals, the number
 abbrev judged : ℕ → ℕ → ℕ → ℕ → ℕ → Bool
@@ -28,25 +27,16 @@ number_more {r} {s} {t} {u} {k} e f g = rw (eq-eqb r s e, eq-eqb t u f, ne_eqb k
     go true h = rw h (lt-leb k u (ltb-true u k h))
     go false h = rw h (le-leb k u (ltb-false u k h))
 
-returns : tie.Need-returns
-returns c =
-    let two = c.before.before.before in
-    number_more two.before.before.before.if1.true two.if2.true c.before.if3.true
+pub returns-then-numbers-ne0 : goal.returns-then-numbers-ne0
+returns-then-numbers-ne0 c = number_more c.if-first-numbers.true c.if-first-numbers-2.true c.if-numbers-ne0.true
 
-returns-2 : tie.Need-returns-2
-returns-2 c =
-    let two = c.before.before in
-    number-0 two.before.before.before.if1.true two.if2.true c.if3.false
+pub returns-else-numbers-ne0 : goal.returns-else-numbers-ne0
+returns-else-numbers-ne0 c = number-0 c.if-first-numbers.true c.if-first-numbers-2.true c.if-numbers-ne0.false
 
-returns-3 : tie.Need-returns-3
-returns-3 c =
-    let a = c.before.before.before.before.before.before.args in
-    other-total a.numbers.number c.before.before.before.if1.true c.if2.false
+pub returns-else-first-numbers-2 : goal.returns-else-first-numbers-2
+returns-else-first-numbers-2 c = let a = c.args in
+    other-total a.numbers.number c.if-first-numbers.true c.if-first-numbers-2.false
 
-returns-4 : tie.Need-returns-4
-returns-4 c =
-    let a = c.before.before.before.args in
-    other-reference a.first.total a.numbers.total a.numbers.number c.if1.false
-
-pub belongs-spec : {M : Type 1} → statement M
-belongs-spec = tie.close (tie.spec returns returns-2 returns-3 returns-4)
+pub returns-else-first-numbers : goal.returns-else-first-numbers
+returns-else-first-numbers c = let a = c.args in
+    other-reference a.first.total a.numbers.total a.numbers.number c.if-first-numbers.false
