@@ -1,0 +1,20 @@
+-- `any_reading` meets its contract: the fields name something, and then the notice decides. Assumes nothing.
+use Rattle.names.proofs.Named.{fields-named}
+use Rattle.names.specs.Names.{named_reading}
+use mathlib.Core.Path.{sym, ◌∙◌}
+use Rattle.names.proofs.any_reading.Goals as goal
+
+pub with-requires : goal.with-requires
+with-requires c = fields-named _ (sym c.fields.ensures ∙ c.if-fields.true)
+
+pub returns-in-Named : goal.returns-in-Named
+unfolding named_reading
+returns-in-Named c = simp (c.with.ensures, sym c.fields.ensures ∙ c.if-fields.true, sym c.notice.ensures ∙ c.in-Named.is)
+
+pub returns-in-Unnamed : goal.returns-in-Unnamed
+unfolding named_reading
+returns-in-Unnamed c = simp (sym c.fields.ensures ∙ c.if-fields.true, sym c.notice.ensures ∙ c.in-Unnamed.is)
+
+pub returns-else-fields : goal.returns-else-fields
+unfolding named_reading
+returns-else-fields c = simp (sym c.fields.ensures ∙ c.if-fields.false)

@@ -1,0 +1,8 @@
+-- `is_old` meets its contract: what an old page reads as is plain 7-bit text. Assumes nothing.
+use Rattle.names.proofs.Settled.{old-plain}
+use mathlib.Core.Path.{sym, ◌∙◌}
+use Rattle.names.proofs.said.is_old.Goals as goal
+
+pub returns-in-Done : goal.returns-in-Done
+returns-in-Done c = let a = c.args in
+    old-plain a.coding _ a.ucs2 (sym c.read_octet.ensures.answer ∙ c.in-Done.is)

@@ -1,0 +1,15 @@
+-- `is_written` meets its contract: an octet that a reading is written with reads as that. Assumes nothing.
+use Rattle.coding.proofs.Theorems.{write_read}
+use Rattle.coding.specs.OctetRead.{octet_reads}
+use Rattle.coding.specs.Readings.{plain_in}
+use Rattle.coding.specs.declared.OctetRead.TheVariants.{Done}
+use Prim.Native.Nat.{ℕ}
+use lib.Dec.{T, eqb→eq}
+use mathlib.Core.Path.{◌≡◌, sym, subst, ◌∙◌}
+use Rattle.names.proofs.said.is_written.Goals as goal
+
+pub returns-in-Done : goal.returns-in-Done
+returns-in-Done c = let a = c.args in
+    λ e.
+    subst (λ (o : ℕ). octet_reads a.service o ≡ Done (plain_in a.ucs2)) (eqb→eq _ _ (subst T (sym e) tt))
+    (write_read a.service (plain_in a.ucs2) _ (sym c.plain_octet.ensures.answer ∙ c.in-Done.is))
