@@ -131,7 +131,7 @@ unfolding last_numbers elements_octets
 total-last c [] h b = h
 total-last c (e ∷ es) h b =
     let parts = below_parts e.octets (elements_octets es) (λ k. b (suc (suc k))) in
-    total-last _ es (go (eqb e.identifier concatenation) parts.0) parts.1
+    total-last (cond (eqb e.identifier concatenation) (Present (numbers_of e)) c) es (go (eqb e.identifier concatenation) parts.0) parts.1
   where
     go : (t : Bool) → Below 256 e.octets → total_in (cond t (Present (numbers_of e)) c) ≤ 255
     go true s = omega (arith, s 1)
