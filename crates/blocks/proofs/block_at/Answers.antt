@@ -6,7 +6,7 @@ use native.Mathlib.Omega.{arith}
 use borrow.Author.Tests.{lt-ltb, le-ltb}
 use lib.ListN.{length, get_or, set, take, drop, replicate, length-drop, drop_of_length-le}
 use lib.Seq.{length-take-le, get_or-take, get_or-drop}
-use Rattle.lists.proofs.Laid.{lay-none, lay-rest, lay-one, lay-moved, lay-end, laid-full}
+use Rattle.lists.proofs.Laid.{lay-rest, lay-one, lay-moved, lay-end, laid-full}
 use Rattle.pages.specs.Joined.{block_at}
 use Rattle.pages.specs.Ordered.{block_or_zeros}
 use Rattle.blocks.proofs.block_at.Goals as goal
@@ -14,9 +14,6 @@ use Rattle.blocks.proofs.block_at.Goals as goal
 -- a block that is there is whole
 whole : (o : List ℕ) (i : ℕ) → 88 * i + 88 ≤ length o → length (take 88 (drop (88 * i) o)) ≡ 88
 whole o i h = length-take-le 88 (drop (88 * i) o) (omega (arith, length-drop (88 * i) o))
-
-pub loop-j-init : goal.loop-j-init
-loop-j-init c = (omega arith, omega (arith, c.if-i-blocks.true), lay-none (replicate 88 0) _)
 
 pub loop-j-preserved : goal.loop-j-preserved
 loop-j-preserved c = let inv = c.loop-j.invariant in

@@ -5,11 +5,7 @@ use native.Mathlib.Omega.{arith}
 use lib.ListN.{drop_of_length-le}
 use Rattle.lists.proofs.Laid.{lay-rest, lay-one, lay-moved, lay-end, laid-full}
 use Rattle.pages.specs.Blocks.{block_of}
-use borrow.Author.Rules.{rules}
 use Rattle.blocks.proofs.page_block.Goals as goal
-
-pub loop-i-init : goal.loop-i-init
-loop-i-init c = (omega arith, search rules, record { here = omega arith; long = refl; done = refl; kept = refl })
 
 pub loop-i-preserved : goal.loop-i-preserved
 loop-i-preserved c = let inv = c.loop-i.invariant in

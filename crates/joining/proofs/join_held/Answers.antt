@@ -2,17 +2,10 @@
 -- Assumes nothing.
 use mathlib.Core.Path.{sym, ap, ◌∙◌}
 use mathlib.Core.Bool.{true, false}
-use Rattle.pages.specs.declared.Header.{Header}
 use Rattle.pages.specs.Inner.{joined_as}
 use Rattle.pages.proofs.Joining.{held-joins, held_none}
 use Rattle.words.proofs.Clauses.{answered}
 use Rattle.joining.proofs.join_held.Goals as goal
-
-pub join_text-requires : goal.join_text-requires
-join_text-requires c = (c.requires.0, ap (λ (h : Header). h.total) c.requires.1)
-
-pub join_text-requires-in-Units : goal.join_text-requires-in-Units
-join_text-requires-in-Units c = (c.requires.0, ap (λ (h : Header). h.total) c.requires.1)
 
 pub returns-in-Septets : goal.returns-in-Septets
 returns-in-Septets c = let a = c.args in

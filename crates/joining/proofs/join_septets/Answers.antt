@@ -7,20 +7,8 @@ use mathlib.Core.List.{List}
 use native.Mathlib.Omega.{arith}
 use lib.ListN.{replicate}
 use lib.Seq.{length-take-le}
-use Rattle.pages.proofs.Joining.{total-below, all_room, content-room, content-front, septets-join}
+use Rattle.pages.proofs.Joining.{content-room, content-front, septets-join}
 use Rattle.joining.proofs.join_septets.Goals as goal
-
-pub unpack_pages-requires : goal.unpack_pages-requires
-unpack_pages-requires c = (c.requires.0, c.requires.1, c.requires.2, omega (arith, c.requires.1, total-below c.args.blocks.now 0))
-
-pub overflow_mul-all : goal.overflow_mul-all
-overflow_mul-all c = omega (arith, c.requires.1, total-below c.args.blocks.now 0)
-
-pub slice_bounds-septets-end : goal.slice_bounds-septets-end
-slice_bounds-septets-end c = all_room false c.args.blocks.now (replicate 1395 0) c.unpack_pages.new.out c.args.total c.requires.0 c.requires.1 (omega arith) c.unpack_pages.ensures
-
-pub slice_bounds-text_length-end : goal.slice_bounds-text_length-end
-slice_bounds-text_length-end c = sym (length-take-le _ _ (all_room false c.args.blocks.now (replicate 1395 0) c.unpack_pages.new.out c.args.total c.requires.0 c.requires.1 (omega arith) c.unpack_pages.ensures))
 
 pub slice_bounds-septets-end-2 : goal.slice_bounds-septets-end-2
 slice_bounds-septets-end-2 c = content-room false c.args.blocks.now (replicate 1395 0) c.unpack_pages.new.out c.args.total c.requires.0 c.requires.1 (omega arith) c.unpack_pages.ensures c.text_length-n.result c.text_length-n.ensures.answer
@@ -33,5 +21,5 @@ returns c = let o : List ℕ = c.args.blocks.now in
     let run =
     content-front false o (replicate 1395 0) c.unpack_pages.new.out c.args.total c.requires.0 c.requires.1 (omega arith) c.unpack_pages.ensures
     c.text_length-n.result c.text_length-n.ensures.answer in
-    let s = septets-join o c.args.out.now _ c.requires.0 (λ k. (c.shared_slice_known-1.given k).fits) run in
+    let s = septets-join o c.args.out.now _ c.requires.0 (λ k. (c.type_inv.blocks k).fits) run in
     record { answer = c.septets_to_text.ensures.answer ∙ s.0; buffer = c.septets_to_text.ensures.buffer ∙ s.1 }

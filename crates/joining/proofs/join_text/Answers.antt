@@ -12,12 +12,6 @@ pub join_units-requires : goal.join_units-requires
 join_units-requires c = let right = order-right c.args.blocks.now c.page_order-order.result c.page_order-order.ensures.answer (not-false _ c.if-not-order.false) in
     (right.0, c.requires.1, right.1)
 
-pub returns-then-ucs2 : goal.returns-then-ucs2
-returns-then-ucs2 c = answered (simp c.if-ucs2.true (c.join_units.ensures.answer, c.join_units.ensures.buffer))
-
 pub join_septets-requires : goal.join_septets-requires
 join_septets-requires c = let right = order-right c.args.blocks.now c.page_order-order.result c.page_order-order.ensures.answer (not-false _ c.if-not-order.false) in
     (right.0, c.requires.1, right.1)
-
-pub returns : goal.returns
-returns c = answered (simp c.if-ucs2.false (c.join_septets.ensures.answer, c.join_septets.ensures.buffer))

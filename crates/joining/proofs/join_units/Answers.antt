@@ -7,20 +7,8 @@ use mathlib.Core.List.{List}
 use native.Mathlib.Omega.{arith}
 use lib.ListN.{replicate}
 use lib.Seq.{length-take-le}
-use Rattle.pages.proofs.Joining.{total-below, all_room, content-room, content-front, units-join}
+use Rattle.pages.proofs.Joining.{content-room, content-front, units-join}
 use Rattle.joining.proofs.join_units.Goals as goal
-
-pub take_pages-requires : goal.take_pages-requires
-take_pages-requires c = (c.requires.0, c.requires.1, c.requires.2, omega (arith, c.requires.1, total-below c.args.blocks.now 0))
-
-pub overflow_mul-all : goal.overflow_mul-all
-overflow_mul-all c = omega (arith, c.requires.1, total-below c.args.blocks.now 0)
-
-pub slice_bounds-units-end : goal.slice_bounds-units-end
-slice_bounds-units-end c = all_room true c.args.blocks.now (replicate 615 0) c.take_pages.new.out c.args.total c.requires.0 c.requires.1 (omega arith) c.take_pages.ensures
-
-pub slice_bounds-kept-end : goal.slice_bounds-kept-end
-slice_bounds-kept-end c = sym (length-take-le _ _ (all_room true c.args.blocks.now (replicate 615 0) c.take_pages.new.out c.args.total c.requires.0 c.requires.1 (omega arith) c.take_pages.ensures))
 
 pub slice_bounds-units-end-2 : goal.slice_bounds-units-end-2
 slice_bounds-units-end-2 c = content-room true c.args.blocks.now (replicate 615 0) c.take_pages.new.out c.args.total c.requires.0 c.requires.1 (omega arith) c.take_pages.ensures c.kept-n.result c.kept-n.ensures.answer

@@ -1,24 +1,17 @@
 -- The septets of each page are stored right behind those of the pages before it, and each page is full.
 -- Assumes nothing.
-use Prim.Native.Nat.{ℕ, ◌+◌, ◌*◌, ◌≤◌, ◌<◌}
-use mathlib.Core.Path.{refl, ap, ◌∙◌}
+use Prim.Native.Nat.{◌*◌, ◌≤◌, ◌<◌}
+use mathlib.Core.Path.{refl}
 use mathlib.Core.Bool.{false}
 use native.Mathlib.Omega.{arith}
 use lib.ListN.{length}
-use Rattle.lists.specs.Lists.{laid}
-use Rattle.pages.specs.Joined.{total_at, joined_from}
-use Rattle.pages.proofs.Joining.{total-below, joined-start, page-laid}
+use Rattle.pages.specs.Joined.{total_at}
+use Rattle.pages.proofs.Joining.{joined-start, page-laid}
 use borrow.Author.Rules.{rules}
 use Rattle.joining.proofs.unpack_pages.Goals as goal
 
 pub loop-k-init : goal.loop-k-init
 loop-k-init c = (search rules, refl, joined-start false c.args.blocks.now c.args.out.now)
-
-pub bounds-places-k : goal.bounds-places-k
-bounds-places-k c = omega (arith, c.requires.1, total-below c.args.blocks.now 0)
-
-pub overflow_sub-places : goal.overflow_sub-places
-overflow_sub-places c = omega (arith, c.requires.1, c.requires.2 (c.loop-k.k + 1) (omega arith) (omega (arith, c.requires.1)))
 
 pub loop-k-preserved : goal.loop-k-preserved
 loop-k-preserved c = let a = c.args in
@@ -29,7 +22,3 @@ loop-k-preserved c = let a = c.args in
       page-laid false a.blocks.now a.places a.out.now c.requires.0 c.requires.2 c.loop-k.k c.loop-k.out c.block_at-block.result c.unpack_all.new.out few fits c.loop-k.invariant.1
           c.loop-k.invariant.2 c.block_at-block.ensures.answer c.unpack_all.ensures.buffer,
     )
-
-pub returns : goal.returns
-returns c = let a = c.args in
-    c.loop-k.invariant.2 ∙ ap (λ (n : ℕ). laid (joined_from false a.blocks.now 1 n) a.out.now) (search rules)

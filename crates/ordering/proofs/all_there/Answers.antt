@@ -1,29 +1,19 @@
 -- Each page passed has its place, so that the first without one decides, or the end of the pages does. Assumes nothing.
 use Prim.Native.Nat.{ℕ, ◌+◌, ◌-◌}
-use mathlib.Core.Path.{◌≡◌, sym, ap, subst, ◌∙◌}
+use mathlib.Core.Path.{◌≡◌, sym, ap, subst}
 use mathlib.Core.Bool.{false, not}
 use mathlib.Core.List.{List}
 use native.Mathlib.Omega.{arith}
-use borrow.Author.Count.{below_more}
-use borrow.Author.Tests.{eq-eqb, ne_eqb}
+use borrow.Author.Tests.{eq-eqb}
 use lib.Dec.{eqb}
 use lib.ListN.{get_or}
 use Rattle.filling.proofs.Runs.{some-here, some-none}
 use Rattle.ordering.proofs.all_there.Goals as goal
 
-pub loop-k-init : goal.loop-k-init
-loop-k-init c = (omega arith, λ j h. absurd (omega arith))
-
 pub returns-then-places-k-eq0 : goal.returns-then-places-k-eq0
 returns-then-places-k-eq0 c = let places : List ℕ = c.args.places in
     let k : ℕ = c.loop-k.k in
     sym (ap not (some-here (λ j. eqb (get_or places j 0) 0) 1 _ (k + 1) (omega arith) (omega (arith, c.loop-k-test.true)) (eq-eqb _ _ c.if-places-k-eq0.true)))
-
-pub loop-k-preserved : goal.loop-k-preserved
-loop-k-preserved c = let places : List ℕ = c.args.places in
-    let k : ℕ = c.loop-k.k in
-    let next : k + 1 ≡ 1 + k = omega arith in
-    (omega arith, below_more _ _ c.loop-k.invariant.1 (ne_eqb _ _ (λ e. c.if-places-k-eq0.false (ap (λ (j : ℕ). get_or places j 0) next ∙ e))))
 
 pub returns : goal.returns
 returns c = let places : List ℕ = c.args.places in

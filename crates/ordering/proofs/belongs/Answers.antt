@@ -21,9 +21,6 @@ other-head t u k e = rw e
 other-total : {s : Bool} {t u : ℕ} (k : ℕ) → s ≡ true → (t ≡ u → ⊥) → eqb t u ≡ judged s t u k
 other-total {s} {t} {u} k e f = rw (e, ne_eqb t u f)
 
-number-0 : {s : Bool} {t u k : ℕ} → s ≡ true → t ≡ u → k ≡ 0 → not (eqb k 0) ≡ judged s t u k
-number-0 {s} {t} {u} {k} e f g = rw (e, eq-eqb t u f, eq-eqb k 0 g)
-
 number_more : {s : Bool} {t u k : ℕ} → s ≡ true → t ≡ u → (k ≡ 0 → ⊥) → leb k u ≡ judged s t u k
 number_more {s} {t} {u} {k} e f g = rw (e, eq-eqb t u f, ne_eqb k 0 g) (go (ltb u k) refl)
   where
@@ -38,9 +35,6 @@ known a b s of head p q r = simp (p, q, r)
 
 pub returns-then-head-ne0 : goal.returns-then-head-ne0
 returns-then-head-ne0 c = number_more c.if-same_head.true c.if-of-head.true c.if-head-ne0.true ∙ known _ _ _ _ _ c.same_head.ensures c.read_header-of.ensures.answer c.read_header-head.ensures.answer
-
-pub returns-else-head-ne0 : goal.returns-else-head-ne0
-returns-else-head-ne0 c = number-0 c.if-same_head.true c.if-of-head.true c.if-head-ne0.false ∙ known _ _ _ _ _ c.same_head.ensures c.read_header-of.ensures.answer c.read_header-head.ensures.answer
 
 pub returns-else-of-head : goal.returns-else-of-head
 returns-else-of-head c = other-total c.read_header-head.result.number c.if-same_head.true c.if-of-head.false ∙ known _ _ _ _ _ c.same_head.ensures c.read_header-of.ensures.answer c.read_header-head.ensures.answer

@@ -8,7 +8,7 @@ use native.Mathlib.Omega.{arith}
 use borrow.Author.Tests.{not-true, not-false}
 use lib.ListN.{get_or, set}
 use Rattle.filling.specs.Numbered.{lacks}
-use Rattle.filling.proofs.Table.{placing-none, placing-more, belonging, lacking}
+use Rattle.filling.proofs.Table.{placing-more, belonging, lacking}
 use Rattle.pages.specs.declared.Header.{Header}
 use Rattle.pages.specs.Blocks.{header_of}
 use Rattle.pages.specs.Ordered.{block_or_zeros}
@@ -40,28 +40,36 @@ lacking-is o places n r e p = p ∙ ap (λ (n : ℕ). not (lacking places n)) e
 pub returns-then-count-eq0 : goal.returns-then-count-eq0
 returns-then-count-eq0 c = record { answer = c.wrong_order.ensures ∙ sym (order-none _ c.if-count-eq0.true) }
 
-pub loop-i-init : goal.loop-i-init
-loop-i-init c = (omega arith, placing-none _ _ _ _ 16)
-
 pub returns-then-not-belongs : goal.returns-then-not-belongs
-returns-then-not-belongs c = record { answer = c.wrong_order-then-not-belongs.ensures ∙ sym (order-foreign _ _ c.loop-i-test.true (sym (belongs-is _ _ _ _ _ (first-is _ _ c.if-count-eq0.false c.block_at-first.ensures.answer) (c.block_at-block.ensures.answer ∙ block_here _ _ c.loop-i-test.true) c.belongs.ensures) ∙ c.if-not-belongs.true)) }
+returns-then-not-belongs c = record {
+  answer = let o : List ℕ = c.args.blocks.now in
+      let first : c.block_at-first.result ≡ block_at o 0 = first-is _ _ c.if-count-eq0.false c.block_at-first.ensures.answer in
+      let block : c.block_at-block.result ≡ block_at o c.loop-i.i = c.block_at-block.ensures.answer ∙ block_here _ _ c.loop-i-test.true in
+      c.wrong_order-then-not-belongs.ensures ∙ sym (order-foreign _ _ c.loop-i-test.true (sym (belongs-is _ _ _ _ _ first block c.belongs.ensures) ∙ c.if-not-belongs.true));
+}
 
 pub returns-then-places-k-ne0 : goal.returns-then-places-k-ne0
 returns-then-places-k-ne0 c = record {
-  answer = let places : List ℕ = c.loop-i.places in
+  answer = let o : List ℕ = c.args.blocks.now in
+      let block : c.block_at-block.result ≡ block_at o c.loop-i.i = c.block_at-block.ensures.answer ∙ block_here _ _ c.loop-i-test.true in
+      let places : List ℕ = c.loop-i.places in
+      let number = number_is _ _ _ _ block c.number_in-k.ensures.0 in
       c.wrong_order-then-places-k-ne0.ensures
-      ∙ sym
-      (order-repeated _ c.loop-i.invariant.1 c.loop-i-test.true (λ e. omega (arith, ap (λ (k : ℕ). get_or places k 0) (number_is _ _ _ _ (c.block_at-block.ensures.answer ∙ block_here _ _ c.loop-i-test.true) c.number_in-k.ensures.0), c.if-places-k-ne0.true)));
+      ∙ sym (order-repeated _ c.loop-i.invariant.1 c.loop-i-test.true (λ e. omega (arith, ap (λ (k : ℕ). get_or places k 0) number, c.if-places-k-ne0.true)));
 }
 
 pub loop-i-preserved : goal.loop-i-preserved
-loop-i-preserved c = let i : ℕ = c.loop-i.i in
+loop-i-preserved c =
+    let o : List ℕ = c.args.blocks.now in
+    let first : c.block_at-first.result ≡ block_at o 0 = first-is _ _ c.if-count-eq0.false c.block_at-first.ensures.answer in
+    let block : c.block_at-block.result ≡ block_at o c.loop-i.i = c.block_at-block.ensures.answer ∙ block_here _ _ c.loop-i-test.true in
+    let i : ℕ = c.loop-i.i in
     let places : List ℕ = c.loop-i.places in
-    let o : List ℕ = c.args.blocks.now in (
+    let number = number_is _ _ _ _ block c.number_in-k.ensures.0 in (
       omega arith,
-      subst (λ (k : ℕ). BlocksPlaced o (i + 1) (set places k (i + 1))) (sym (number_is _ _ _ _ (c.block_at-block.ensures.answer ∙ block_here _ _ c.loop-i-test.true) c.number_in-k.ensures.0))
-          (placing-more c.loop-i.invariant.1 c.loop-i-test.true (number-at-small o i) (sym (belongs-is _ _ _ _ _ (first-is _ _ c.if-count-eq0.false c.block_at-first.ensures.answer) (c.block_at-block.ensures.answer ∙ block_here _ _ c.loop-i-test.true) c.belongs.ensures) ∙ c.if-not-belongs.false)
-          (omega (arith, ap (λ (k : ℕ). get_or places k 0) (number_is _ _ _ _ (c.block_at-block.ensures.answer ∙ block_here _ _ c.loop-i-test.true) c.number_in-k.ensures.0), c.if-places-k-ne0.false))),
+      subst (λ (k : ℕ). BlocksPlaced o (i + 1) (set places k (i + 1))) (sym number)
+          (placing-more c.loop-i.invariant.1 c.loop-i-test.true (number-at-small o i) (sym (belongs-is _ _ _ _ _ first block c.belongs.ensures) ∙ c.if-not-belongs.false)
+          (omega (arith, ap (λ (k : ℕ). get_or places k 0) number, c.if-places-k-ne0.false))),
     )
 
 pub all_there-requires : goal.all_there-requires
@@ -69,15 +77,19 @@ all_there-requires c = omega (arith, ap (λ (h : Header). h.total) c.read_header
 
 pub returns-then-not-all_there : goal.returns-then-not-all_there
 returns-then-not-all_there c = record {
-  answer = c.wrong_order-then-not-all_there.ensures
+  answer = let o : List ℕ = c.args.blocks.now in
+      let first : c.block_at-first.result ≡ block_at o 0 = first-is _ _ c.if-count-eq0.false c.block_at-first.ensures.answer in
+      let there = lacking-is _ _ _ _ (total-is _ _ _ first c.read_header-head.ensures.answer) c.all_there.ensures in
+      c.wrong_order-then-not-all_there.ensures
       ∙ sym
-      (order-missing _ c.loop-i.invariant.1 (omega (arith, c.loop-i.invariant.0, c.loop-i-test.false))
-      (not-false _ (sym (lacking-is _ _ _ _ (total-is _ _ _ (first-is _ _ c.if-count-eq0.false c.block_at-first.ensures.answer) c.read_header-head.ensures.answer) c.all_there.ensures) ∙ c.if-not-all_there.true)));
+      (order-missing _ c.loop-i.invariant.1 (omega (arith, c.loop-i.invariant.0, c.loop-i-test.false)) (not-false _ (sym there ∙ c.if-not-all_there.true)));
 }
 
 pub returns : goal.returns
 returns c = record {
-  answer = sym
-      (order-right _ c.loop-i.invariant.1 (omega (arith, c.loop-i.invariant.0, c.loop-i-test.false)) c.if-count-eq0.false
-      (not-true _ (sym (lacking-is _ _ _ _ (total-is _ _ _ (first-is _ _ c.if-count-eq0.false c.block_at-first.ensures.answer) c.read_header-head.ensures.answer) c.all_there.ensures) ∙ c.if-not-all_there.false)));
+  answer = let o : List ℕ = c.args.blocks.now in
+      let first : c.block_at-first.result ≡ block_at o 0 = first-is _ _ c.if-count-eq0.false c.block_at-first.ensures.answer in
+      let there = lacking-is _ _ _ _ (total-is _ _ _ first c.read_header-head.ensures.answer) c.all_there.ensures in
+      sym
+      (order-right _ c.loop-i.invariant.1 (omega (arith, c.loop-i.invariant.0, c.loop-i-test.false)) c.if-count-eq0.false (not-true _ (sym there ∙ c.if-not-all_there.false)));
 }

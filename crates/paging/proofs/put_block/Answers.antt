@@ -1,17 +1,12 @@
 -- The block is pasted over the buffer, one octet after the other. Assumes nothing.
 use Prim.Native.Nat.{ℕ, ◌+◌}
-use mathlib.Core.Path.{◌≡◌, refl, sym, ap, ◌∙◌}
-use mathlib.Core.List.{List, ◌++◌}
+use mathlib.Core.Path.{sym, ap, ◌∙◌}
+use mathlib.Core.List.{List}
 use native.Mathlib.Numerals.{add-one}
 use native.Mathlib.Omega.{arith}
-use lib.ListN.{get_or, set, take, drop, length-set}
-use lib.Seq.{paste, paste-zero, paste-suc, take_all}
-use borrow.Author.Rules.{rules}
+use lib.ListN.{get_or, set, length-set}
+use lib.Seq.{paste, paste-suc}
 use Rattle.paging.proofs.put_block.Goals as goal
-
-pub loop-i-init : goal.loop-i-init
-loop-i-init c = let a = c.args in
-    (omega arith, c.requires, search rules, refl, paste-zero a.out.now a.at a.block)
 
 pub loop-i-preserved : goal.loop-i-preserved
 loop-i-preserved c = let a = c.args in
@@ -24,9 +19,3 @@ loop-i-preserved c = let a = c.args in
       ap (λ (l : List ℕ). set l (a.at + i) (get_or a.block i 0)) inv.4 ∙ paste-suc a.out.now a.at a.block i 0 (omega (arith, inv.1)) (omega (arith, inv.2))
           ∙ ap (paste a.out.now a.at a.block) (sym (add-one i)),
     )
-
-pub returns : goal.returns
-returns c = let a = c.args in
-    let inv = c.loop-i.invariant in
-    let all : c.loop-i.i ≡ 88 = omega arith in
-    inv.4 ∙ ap (paste a.out.now a.at a.block) all ∙ ap (λ (l : List ℕ). take a.at a.out.now ++ l ++ drop (a.at + 88) a.out.now) (take_all 88 a.block (omega (arith, inv.2)))

@@ -8,8 +8,6 @@ use native.Mathlib.Omega.{arith}
 use lib.ListN.{length, take, drop}
 use Rattle.lists.specs.Lists.{laid}
 use Rattle.lists.proofs.Laid.{laid_then, laid-length}
-use Rattle.filling.proofs.Parts.{piece-within}
-use Rattle.pages.specs.Parts.{page_room}
 use Rattle.pages.specs.Written.{page_block, blocks_from}
 use Rattle.pages.proofs.Blocks.{page-block-length, blocks-length, blocks_more}
 use borrow.Author.Rules.{rules}
@@ -18,11 +16,6 @@ use Rattle.paging.proofs.put_pages.Goals as goal
 pub loop-k-init : goal.loop-k-init
 unfolding laid blocks_from
 loop-k-init c = search rules
-
-pub nth_block-block-requires : goal.nth_block-block-requires
-nth_block-block-requires c = let a = c.args in
-    let begun = piece-within (page_room a.ucs2) c.loop-k.k a.total (length (cond a.ucs2 a.units.now a.septets.now)) c.loop-k-test.true c.requires.total_in_bounds in
-    (omega (arith, c.requires.total_bound.0), c.requires.total_bound.2, omega (arith, begun))
 
 pub loop-k-preserved : goal.loop-k-preserved
 loop-k-preserved c = let a = c.args in
@@ -42,10 +35,3 @@ loop-k-preserved c = let a = c.args in
     ∙ ap (λ (l : List ℕ). laid l lent) (sym (blocks_more h.sequence h.identifier h.coding h.total a.ucs2 s 1 k)) in
     let fits : length (b (k + 1)) ≤ length lent = omega (arith, blocks-length h.sequence h.identifier h.coding h.total a.ucs2 s 1 (k + 1), c.requires.total_bound.1) in
     (omega arith, ap length more ∙ laid-length (b (k + 1)) lent fits, more)
-
-pub returns : goal.returns
-returns c = let a = c.args in
-    let h = a.head in
-    let all : c.loop-k.k ≡ a.total = omega arith in
-    c.loop-k.invariant.2
-    ∙ ap (λ (k : ℕ). laid (blocks_from h.sequence h.identifier h.coding h.total a.ucs2 (cond a.ucs2 a.units.now a.septets.now) 1 k) a.out.now) all

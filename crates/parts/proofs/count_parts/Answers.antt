@@ -1,0 +1,21 @@
+-- What is settled of the reading decides, and then the plan of the text. Assumes nothing.
+use mathlib.Core.Path.{sym, ap, ◌∙◌}
+use mathlib.Core.Bool.{Bool}
+use Rattle.parted.specs.Cutting.{planned_as}
+use Rattle.parted.specs.Inner.{counted_as}
+use Rattle.parts.proofs.Settled.{counts-text, counts-refused}
+use Rattle.parts.proofs.count_parts.Goals as goal
+
+pub returns-in-Text : goal.returns-in-Text
+returns-in-Text c = record {
+  answer = let a = c.args in
+      c.counted.ensures
+      ∙ ap counted_as (c.plan.ensures.answer ∙ ap (λ (b : Bool). planned_as b a.units.now) c.ucs2.ensures.answer)
+      ∙ counts-text a.reading a.units.now _ (sym c.in-Text.is ∙ c.settle.ensures.answer);
+}
+
+pub returns-in-Refused : goal.returns-in-Refused
+returns-in-Refused c = record {
+  answer = let a = c.args in
+      counts-refused a.reading a.units.now _ (sym c.in-Refused.is ∙ c.settle.ensures.answer);
+}

@@ -1,0 +1,89 @@
+-- `put_all` meets its contract: part by part, each behind those before it. Assumes nothing.
+use mathlib.Core.Path.{◌≡◌, sym, ap, subst, ◌∙◌}
+use mathlib.Core.Bool.{false}
+use mathlib.Core.List.{List}
+use Prim.Native.Nat.{ℕ, ◌*◌}
+use native.Mathlib.Omega.{arith}
+use lib.ListN.{length, length-set}
+use Rattle.lists.specs.Lists.{laid}
+use Rattle.lists.proofs.Laid.{laid-length}
+use Rattle.letters.specs.Sized.{content_of}
+use Rattle.parted.specs.Written.{all_octets, all_sizes}
+use Rattle.parted.proofs.Ends.{sizes-length}
+use Rattle.parted.proofs.WriteSteps.{begins-0, blank_none, none-laid, room-here, octets-laid, sizes-laid, sizes-room, all-length}
+use Rattle.parted.proofs.Plans.{count_most, octets-most}
+use Rattle.parted.proofs.Windows.{PlaceAt, place-begins}
+use Rattle.parts.proofs.put_all.Goals as goal
+
+pub loop-k-init : goal.loop-k-init
+loop-k-init c = let a = c.args in
+    let t : List ℕ = a.units.now in
+    let none = none-laid a.plan a.reference (content_of a.plan.ucs2 t) a.out.now a.sizes.now in
+    (omega arith, none.0, none.1, (λ other. subst (λ (m : ℕ). PlaceAt t m 0 false) (sym (begins-0 a.plan t c.requires.0)) (place-begins t)), blank_none a.plan)
+
+pub overflow_mul-at : goal.overflow_mul-at
+overflow_mul-at c = record { fits = omega (arith, c.loop-k-test.true, c.requires.0.most) }
+
+pub overflow_cast-part : goal.overflow_cast-part
+overflow_cast-part c = record { fits = omega (arith, c.loop-k-test.true, c.requires.0.most) }
+
+pub slice_bounds-put_part-end : goal.slice_bounds-put_part-end
+slice_bounds-put_part-end c = sym c.loop-k.invariant.4.0
+
+pub slice_bounds-put_part-count : goal.slice_bounds-put_part-count
+slice_bounds-put_part-count c = let a = c.args in
+    omega (arith, (room-here a.plan a.units.now c.requires.0 a.reference c.loop-k.k c.loop-k-test.true a.out.now c.loop-k.out c.requires.1 c.loop-k.invariant.1).0)
+
+pub put_part-place-requires : goal.put_part-place-requires
+put_part-place-requires c = let a = c.args in
+    let r = room-here a.plan a.units.now c.requires.0 a.reference c.loop-k.k c.loop-k-test.true a.out.now c.loop-k.out c.requires.1 c.loop-k.invariant.1 in
+    (c.requires.0, c.loop-k-test.true, c.loop-k.invariant.4, r.1, c.loop-k.invariant.3)
+
+pub overflow_cast-sizes : goal.overflow_cast-sizes
+overflow_cast-sizes c = record { fits = omega (arith, c.part_size-size.ensures.0, count_most c.args.plan c.loop-k.k) }
+
+pub bounds-sizes-k : goal.bounds-sizes-k
+bounds-sizes-k c = let a = c.args in
+    omega (arith, c.requires.2, c.loop-k-test.true, sizes-room a.plan a.units.now c.requires.0 a.reference c.loop-k.k c.loop-k-test.true a.sizes.now c.loop-k.sizes c.requires.2 c.loop-k.invariant.2)
+
+pub overflow_cast-sizes-in-loop-k : goal.overflow_cast-sizes-in-loop-k
+overflow_cast-sizes-in-loop-k c = record { fits = omega (arith, c.part_size-size.ensures.1, octets-most c.args.plan c.loop-k.k) }
+
+pub bounds-sizes-k-in-loop-k : goal.bounds-sizes-k-in-loop-k
+bounds-sizes-k-in-loop-k c = let a = c.args in
+    omega (arith, length-set c.loop-k.sizes (2 * c.loop-k.k) c.part_size-size.result.count, c.requires.2, c.loop-k-test.true, sizes-room a.plan a.units.now c.requires.0 a.reference c.loop-k.k c.loop-k-test.true a.sizes.now c.loop-k.sizes c.requires.2 c.loop-k.invariant.2)
+
+pub loop-k-preserved : goal.loop-k-preserved
+loop-k-preserved c = let a = c.args in
+    let p = a.plan in
+    let t : List ℕ = a.units.now in
+    let k : ℕ = c.loop-k.k in (
+      omega arith,
+      octets-laid p t c.requires.0 a.reference k c.loop-k-test.true a.out.now c.loop-k.out _ c.loop-k.invariant.1 c.put_part-place.ensures.out_after,
+      sizes-laid p t c.requires.0 a.reference k c.loop-k-test.true a.sizes.now c.loop-k.sizes _ _ c.requires.2 c.loop-k.invariant.2 c.part_size-size.ensures.0 c.part_size-size.ensures.1,
+      c.put_part-place.ensures.placed,
+      c.put_part-place.ensures.blank,
+    )
+
+pub returns : goal.returns
+returns c = let a = c.args in
+    let t : List ℕ = a.units.now in
+    let last : c.loop-k.k ≡ a.plan.total = omega (arith, c.loop-k.invariant.0, c.loop-k-test.false) in
+    record {
+      out_after = c.loop-k.invariant.1 ∙ ap (λ (n : ℕ). laid (all_octets a.plan.ucs2 a.reference a.plan.total (content_of a.plan.ucs2 t) 1 n) a.out.now) last;
+      sizes_after = c.loop-k.invariant.2 ∙ ap (λ (n : ℕ). laid (all_sizes a.plan.ucs2 a.reference a.plan.total (content_of a.plan.ucs2 t) 1 n) a.sizes.now) last;
+    }
+
+pub shape_of-out : goal.shape_of-out
+shape_of-out c = let a = c.args in
+    let t : List ℕ = a.units.now in
+    let last : c.loop-k.k ≡ a.plan.total = omega (arith, c.loop-k.invariant.0, c.loop-k-test.false) in
+    ap length (c.loop-k.invariant.1 ∙ ap (λ (n : ℕ). laid (all_octets a.plan.ucs2 a.reference a.plan.total (content_of a.plan.ucs2 t) 1 n) a.out.now) last)
+    ∙ laid-length (all_octets a.plan.ucs2 a.reference a.plan.total (content_of a.plan.ucs2 t) 1 a.plan.total) a.out.now (omega (arith, c.requires.1, all-length a.plan t c.requires.0 a.reference))
+
+pub shape_of-sizes : goal.shape_of-sizes
+shape_of-sizes c = let a = c.args in
+    let t : List ℕ = a.units.now in
+    let last : c.loop-k.k ≡ a.plan.total = omega (arith, c.loop-k.invariant.0, c.loop-k-test.false) in
+    ap length (c.loop-k.invariant.2 ∙ ap (λ (n : ℕ). laid (all_sizes a.plan.ucs2 a.reference a.plan.total (content_of a.plan.ucs2 t) 1 n) a.sizes.now) last)
+    ∙ laid-length (all_sizes a.plan.ucs2 a.reference a.plan.total (content_of a.plan.ucs2 t) 1 a.plan.total) a.sizes.now (omega (arith, c.requires.2, sizes-length a.plan.ucs2 a.reference a.plan.total (content_of a.plan.ucs2 t) 1 a.plan.total))
