@@ -1,0 +1,22 @@
+-- `wikuay_write_pages` meets its contract: the library's call does, for what the numbers name. Assumes nothing.
+use Rattle.page_answers.proofs.MostPages.{pages-within}
+use Rattle.wikuay.specs.PageCalls.{write_pages_gives, write_pages_keeps}
+use Rattle.pages.specs.declared.PagesWritten.{PagesWritten}
+use Rattle.pages.specs.Reports.{pages_pages}
+use Prim.Native.Nat.{◌≤◌}
+use mathlib.Core.Path.{sym, ◌∙◌, subst}
+use borrow.Author.Rules.{rules}
+use Rattle.wikuay.proofs.broadcasts.wikuay_write_pages.Goals as goal
+
+pub pages_written-requires : goal.pages_written-requires
+pages_written-requires c = subst (λ (a : PagesWritten). pages_pages a ≤ 15) (sym c.write_pages.ensures.answer) (pages-within _ _ _ _ _)
+
+pub returns-in-Named : goal.returns-in-Named
+unfolding write_pages_gives write_pages_keeps
+returns-in-Named c = let n = sym c.reading.ensures.answer ∙ c.in-Named.is in
+    record { answer = simp (c.pages_written.ensures, c.write_pages.ensures.answer, n); buffer = simp (c.write_pages.ensures.buffer, n) }
+
+pub returns-in-Unnamed : goal.returns-in-Unnamed
+unfolding write_pages_gives write_pages_keeps
+returns-in-Unnamed c = let n = sym c.reading.ensures.answer ∙ c.in-Unnamed.is in
+    record { answer = simp (c.pages_refused.ensures.answer, n); buffer = simp n }

@@ -1,0 +1,22 @@
+-- `wikuay_write_part` meets its contract: the library's call does, for what the numbers name. Assumes nothing.
+use Rattle.part_answers.proofs.MostParts.{written-within, count-within}
+use Rattle.wikuay.specs.PartCalls.{write_part_gives, write_part_keeps}
+use Rattle.parted.specs.declared.PartWritten.{PartWritten}
+use Rattle.parted.specs.Reports.{part_travels, part_parts}
+use Prim.Native.Nat.{◌≤◌}
+use mathlib.Core.Path.{sym, ◌∙◌, subst}
+use borrow.Author.Rules.{rules}
+use Rattle.wikuay.proofs.long_messages.wikuay_write_part.Goals as goal
+
+pub part_written-requires : goal.part_written-requires
+part_written-requires c = subst (λ (a : PartWritten). (part_parts a ≤ 255) × (part_travels a ≤ 160)) (sym c.write_part.ensures.answer) (written-within _ _ _ _ _, count-within _ _ _ _ _)
+
+pub returns-in-Named : goal.returns-in-Named
+unfolding write_part_gives write_part_keeps
+returns-in-Named c = let n = sym c.reading.ensures.answer ∙ c.in-Named.is in
+    record { answer = simp (c.part_written.ensures, c.write_part.ensures.answer, n); buffer = simp (c.write_part.ensures.buffer, n) }
+
+pub returns-in-Unnamed : goal.returns-in-Unnamed
+unfolding write_part_gives write_part_keeps
+returns-in-Unnamed c = let n = sym c.reading.ensures.answer ∙ c.in-Unnamed.is in
+    record { answer = simp (c.parts_refused.ensures.answer, n); buffer = simp n }

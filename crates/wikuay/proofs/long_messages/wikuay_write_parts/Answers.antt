@@ -1,0 +1,28 @@
+-- `wikuay_write_parts` meets its contract: the library's call does, for what the numbers name. Assumes nothing.
+use Rattle.part_answers.proofs.MostParts.{parts_within}
+use Rattle.wikuay.specs.PartCalls.{write_parts_gives, write_parts_keeps, write_parts_lists}
+use Rattle.parted.specs.declared.PartsWritten.{PartsWritten}
+use Rattle.parted.specs.Reports.{parts_parts}
+use Prim.Native.Nat.{◌≤◌}
+use mathlib.Core.Path.{sym, ◌∙◌, subst}
+use borrow.Author.Rules.{rules}
+use Rattle.wikuay.proofs.long_messages.wikuay_write_parts.Goals as goal
+
+pub parts_written-requires : goal.parts_written-requires
+parts_written-requires c = subst (λ (a : PartsWritten). parts_parts a ≤ 255) (sym c.write_parts.ensures.answer) (parts_within _ _ _ _ _)
+
+pub returns-in-Named : goal.returns-in-Named
+unfolding write_parts_gives write_parts_keeps write_parts_lists
+returns-in-Named c =
+    let n = sym c.reading.ensures.answer ∙ c.in-Named.is in
+    record {
+      answer = simp (c.parts_written.ensures, c.write_parts.ensures.answer, n);
+      buffer = simp (c.write_parts.ensures.buffer, n);
+      sizes = simp (c.write_parts.ensures.sizes, n);
+    }
+
+pub returns-in-Unnamed : goal.returns-in-Unnamed
+unfolding write_parts_gives write_parts_keeps write_parts_lists
+returns-in-Unnamed c =
+    let n = sym c.reading.ensures.answer ∙ c.in-Unnamed.is in
+    record { answer = simp (c.parts_refused.ensures.answer, n); buffer = simp n; sizes = simp n }

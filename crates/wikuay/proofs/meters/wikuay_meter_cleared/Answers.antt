@@ -1,0 +1,13 @@
+-- `wikuay_meter_cleared` meets its contract: the library's call does, for the record that the numbers name. Assumes nothing.
+use mathlib.Core.Path.{sym, ◌∙◌}
+use borrow.Author.Rules.{rules}
+use Rattle.wikuay.specs.MeterCalls.{meter_cleared_gives}
+use Rattle.wikuay.proofs.meters.wikuay_meter_cleared.Goals as goal
+
+pub returns-in-Named : goal.returns-in-Named
+unfolding meter_cleared_gives
+returns-in-Named c = record { answer = simp (c.shown.ensures, c.cleared.ensures.answer, sym c.named.ensures ∙ c.in-Named.is) }
+
+pub returns-in-Unnamed : goal.returns-in-Unnamed
+unfolding meter_cleared_gives
+returns-in-Unnamed c = record { answer = simp (c.unnamed.ensures, sym c.named.ensures ∙ c.in-Unnamed.is) }
