@@ -7,7 +7,7 @@ use Rattle.metered.proofs.Keys.{added-judged}
 use Rattle.meter.proofs.added.Goals as goal
 
 pub overflow_add-used : goal.overflow_add-used
-overflow_add-used c = record { fits = omega (arith, c.struct_known-1.given.1.0.fits, c.septets_of-septets.ensures.1) }
+overflow_add-used c = record { fits = omega (arith, c.septets_of-septets.ensures.1) }
 
 pub returns : goal.returns
 returns c = record {

@@ -23,14 +23,14 @@ overflow_cast-size c = record { sfits = subst (λ (n : ℕ). n < 2 ^ 63) (sym c.
 pub overflow_sub-result : goal.overflow_sub-result
 unfolding remains
 overflow_sub-result c = let m : Meter = c.args.meter in
-    let used : m.used < 2 ^ 32 = c.struct_known-1.given.1.0.fits in
+    let used : m.used < 2 ^ 32 = omega arith in
     subst (SFits w64) (sym (shown m.service c.most_septets-size.result m.used c.most_septets-size.ensures.answer used)) (remains-fits m used)
 
 pub returns : goal.returns
 unfolding remains
 returns c = record {
   answer = let m : Meter = c.args.meter in
-      let used : m.used < 2 ^ 32 = c.struct_known-1.given.1.0.fits in
+      let used : m.used < 2 ^ 32 = omega arith in
       ap (λ (z : ℤ). to_z w64 (of_z w64 z)) (shown m.service c.most_septets-size.result m.used c.most_septets-size.ensures.answer used)
       ∙ to_z-of_z (remains-fits m used);
 }
