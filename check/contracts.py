@@ -5,7 +5,7 @@ A public call has no `requires`. Its `ensures answer` is an equation of the resu
 buffer one clause is an equation of its new contents. A call that answers nothing has the clauses of its buffers alone, at least
 one. The definitions stand in specs/ of a crate, and not in an Inner file.
 In proofs/Outcomes.antt of its crate, which Lib.antt names, a lemma states `OneAnswer` of that call's own contract, and one
-`OneBuffer` for each lent buffer: any two outcomes coincide. Of a call that borrows a struct, whose proof walks its code, they
+`OneBuffer` for each lent buffer: any two outcomes coincide. Of a call that borrows a struct they
 state `OneResult` and `OneRecord` of its clauses. docs/OUTCOMES.md has a row for each call, and for nothing else.
 A crate X_c, a static library, exports the calls of X to C, all of them and nothing else: each has the name, the parameters and the
 clauses of X's call, by the same definitions, and its body is that call. Its contract is held to the same form. It has no lemmas and no
