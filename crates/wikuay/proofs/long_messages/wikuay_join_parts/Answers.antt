@@ -10,7 +10,7 @@ use Rattle.wikuay.proofs.long_messages.wikuay_join_parts.Goals as goal
 
 pub joined-requires : goal.joined-requires
 joined-requires c = subst (λ (a : PartsJoined). join_parts a ≤ 255) (sym c.join_parts.ensures.answer)
-    (joined-within _ _ _ _ (λ k. (c.shared_slice_known-2-1.given k).fits))
+    (joined-within _ _ _ _ (λ k. (c.type_inv.octets k).fits))
 
 pub returns : goal.returns
 unfolding join_parts_gives
