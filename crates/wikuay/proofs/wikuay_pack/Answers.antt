@@ -5,7 +5,6 @@ use Rattle.stream.specs.declared.Packed.{Packed}
 use Rattle.stream.specs.Answers.{packed_count}
 use Prim.Native.Nat.{◌≤◌}
 use mathlib.Core.Path.{sym, ◌∙◌, subst}
-use borrow.Author.Rules.{rules}
 use Rattle.wikuay.proofs.wikuay_pack.Goals as goal
 
 pub packed-requires : goal.packed-requires

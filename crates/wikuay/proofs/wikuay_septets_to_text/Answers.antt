@@ -1,6 +1,5 @@
 -- `wikuay_septets_to_text` meets its contract: the library's call does, for what the numbers name. Assumes nothing.
 use Rattle.wikuay.specs.Calls.{septets_to_text_gives}
-use borrow.Author.Rules.{rules}
 use Rattle.wikuay.proofs.wikuay_septets_to_text.Goals as goal
 
 pub returns : goal.returns

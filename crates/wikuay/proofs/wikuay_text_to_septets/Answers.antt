@@ -1,6 +1,5 @@
 -- `wikuay_text_to_septets` meets its contract: the library's call does, for what the numbers name. Assumes nothing.
 use Rattle.wikuay.specs.Calls.{text_to_septets_gives}
-use borrow.Author.Rules.{rules}
 use Rattle.wikuay.proofs.wikuay_text_to_septets.Goals as goal
 
 pub returns : goal.returns

@@ -1,7 +1,6 @@
 -- `wikuay_unpack` meets its contract: the library's call does, for what the numbers name. Assumes nothing.
 use Rattle.wikuay.specs.Calls.{unpack_gives, unpack_keeps}
 use mathlib.Core.Path.{sym, ◌∙◌}
-use borrow.Author.Rules.{rules}
 use Rattle.wikuay.proofs.wikuay_unpack.Goals as goal
 
 pub returns-in-Named : goal.returns-in-Named

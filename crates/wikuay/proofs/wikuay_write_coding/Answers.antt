@@ -1,7 +1,6 @@
 -- `wikuay_write_coding` meets its contract: the library's call does, for what the numbers name. Assumes nothing.
 use Rattle.wikuay.specs.Calls.{write_coding_gives}
 use mathlib.Core.Path.{sym, ◌∙◌}
-use borrow.Author.Rules.{rules}
 use Rattle.wikuay.proofs.wikuay_write_coding.Goals as goal
 
 pub returns-in-Named-reading : goal.returns-in-Named-reading

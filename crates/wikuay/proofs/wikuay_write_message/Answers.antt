@@ -11,7 +11,6 @@ use Rattle.demands.specs.Reports.{write_count}
 use Prim.Native.Nat.{ℕ, ◌≤◌}
 use lib.ListN.{length}
 use mathlib.Core.Path.{ap, sym, subst, ◌∙◌}
-use borrow.Author.Rules.{rules}
 use Rattle.words.proofs.Clauses.{answered}
 use Rattle.wikuay.proofs.wikuay_write_message.Goals as goal
 

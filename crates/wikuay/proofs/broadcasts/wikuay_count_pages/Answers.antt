@@ -5,7 +5,6 @@ use Rattle.pages.specs.declared.Counted.{Counted}
 use Rattle.pages.specs.Reports.{counted_pages}
 use Prim.Native.Nat.{◌≤◌}
 use mathlib.Core.Path.{sym, ◌∙◌, subst}
-use borrow.Author.Rules.{rules}
 use Rattle.wikuay.proofs.broadcasts.wikuay_count_pages.Goals as goal
 
 pub counted-requires : goal.counted-requires

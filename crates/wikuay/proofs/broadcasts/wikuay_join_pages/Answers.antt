@@ -5,7 +5,6 @@ use Rattle.pages.specs.declared.Joined.{Joined}
 use Rattle.pages.specs.Reports.{join_pages}
 use Prim.Native.Nat.{◌≤◌}
 use mathlib.Core.Path.{sym, subst}
-use borrow.Author.Rules.{rules}
 use Rattle.wikuay.proofs.broadcasts.wikuay_join_pages.Goals as goal
 
 pub joined-requires : goal.joined-requires

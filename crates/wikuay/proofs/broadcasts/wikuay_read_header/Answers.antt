@@ -1,6 +1,5 @@
 -- `wikuay_read_header` meets its contract: the library's call does. Assumes nothing.
 use Rattle.wikuay.specs.PageCalls.{read_header_gives}
-use borrow.Author.Rules.{rules}
 use Rattle.wikuay.proofs.broadcasts.wikuay_read_header.Goals as goal
 
 pub returns : goal.returns

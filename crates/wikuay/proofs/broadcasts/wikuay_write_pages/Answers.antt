@@ -5,7 +5,6 @@ use Rattle.pages.specs.declared.PagesWritten.{PagesWritten}
 use Rattle.pages.specs.Reports.{pages_pages}
 use Prim.Native.Nat.{◌≤◌}
 use mathlib.Core.Path.{sym, ◌∙◌, subst}
-use borrow.Author.Rules.{rules}
 use Rattle.wikuay.proofs.broadcasts.wikuay_write_pages.Goals as goal
 
 pub pages_written-requires : goal.pages_written-requires

@@ -5,7 +5,6 @@ use Rattle.parted.specs.declared.Counted.{Counted}
 use Rattle.parted.specs.Reports.{counted_parts}
 use Prim.Native.Nat.{◌≤◌}
 use mathlib.Core.Path.{sym, ◌∙◌, subst}
-use borrow.Author.Rules.{rules}
 use Rattle.wikuay.proofs.long_messages.wikuay_count_parts.Goals as goal
 
 pub counted-requires : goal.counted-requires

@@ -5,7 +5,6 @@ use Rattle.parted.specs.declared.PartsJoined.{PartsJoined}
 use Rattle.parted.specs.Reports.{join_parts}
 use Prim.Native.Nat.{◌≤◌}
 use mathlib.Core.Path.{sym, subst}
-use borrow.Author.Rules.{rules}
 use Rattle.wikuay.proofs.long_messages.wikuay_join_parts.Goals as goal
 
 pub joined-requires : goal.joined-requires

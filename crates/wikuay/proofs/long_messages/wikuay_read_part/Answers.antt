@@ -1,7 +1,6 @@
 -- `wikuay_read_part` meets its contract: the library's call does, for the mark that the number names. Assumes nothing.
 use Rattle.wikuay.specs.PartCalls.{read_part_gives, read_part_keeps}
 use borrow.Author.Tests.{le-leb, lt-leb}
-use borrow.Author.Rules.{rules}
 use Rattle.wikuay.proofs.long_messages.wikuay_read_part.Goals as goal
 
 pub returns-then-mark-ge2 : goal.returns-then-mark-ge2

@@ -5,7 +5,6 @@ use Rattle.parted.specs.declared.PartWritten.{PartWritten}
 use Rattle.parted.specs.Reports.{part_travels, part_parts}
 use Prim.Native.Nat.{◌≤◌}
 use mathlib.Core.Path.{sym, ◌∙◌, subst}
-use borrow.Author.Rules.{rules}
 use Rattle.wikuay.proofs.long_messages.wikuay_write_part.Goals as goal
 
 pub part_written-requires : goal.part_written-requires

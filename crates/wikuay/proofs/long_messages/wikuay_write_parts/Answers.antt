@@ -5,7 +5,6 @@ use Rattle.parted.specs.declared.PartsWritten.{PartsWritten}
 use Rattle.parted.specs.Reports.{parts_parts}
 use Prim.Native.Nat.{◌≤◌}
 use mathlib.Core.Path.{sym, ◌∙◌, subst}
-use borrow.Author.Rules.{rules}
 use Rattle.wikuay.proofs.long_messages.wikuay_write_parts.Goals as goal
 
 pub parts_written-requires : goal.parts_written-requires

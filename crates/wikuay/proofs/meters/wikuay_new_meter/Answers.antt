@@ -1,5 +1,4 @@
 -- `wikuay_new_meter` meets its contract: a new meter's record is shown as any is. Assumes nothing.
-use borrow.Author.Rules.{rules}
 use Rattle.wikuay.specs.MeterCalls.{new_meter_gives}
 use Rattle.wikuay.proofs.meters.wikuay_new_meter.Goals as goal
 
