@@ -15,6 +15,8 @@ Row = collections.namedtuple("Row", "direction service text length side answer c
 MOST = {"write": 2000, "read": 1600}
 FULL = {"sms": 160, "page": 93, "ussd": 182, "pages": 1395, "lettered": 90}
 FULL_UCS2 = 70
+# How often the cost of the loop that swaps is allowed to them.
+SWAP_TIMES = {"write": 2, "read": 2.5}
 # A page of UCS2 behind language letters is held to the plain loop, and not to the loop that swaps, which has no letters.
 LETTERED_UCS2 = {"lettered-ucs2": 40}
 # The keys of a meter, of a text that takes so many septets, and how often the plain loop's cost is allowed: a key that is no small letter is encoded as a
@@ -24,7 +26,7 @@ KEY_TIMES = {"letters": 1.56, "accent": 1.67}
 # Texts whose every unit is searched for in the tables from code to unit, where the plain loop has a table from unit to code: how often its cost is allowed.
 # Of one page of several and of parts more septets are made than leave. Beside the plain loop that searches too, they cost at most a part of its instructions.
 SEARCHED = ("extension", "euro")
-SEARCHED_TIMES = {"built": 3.4, "meter": 3.2, "parts": 3.7, "part": 6.8}
+SEARCHED_TIMES = {"built": 3.4, "meter": 3.2, "parts": 3.7, "part": 6.9}
 OTHER_SEARCHED = 2
 SEARCH_PART = 0.25
 # Messages of several pages, all of them and the last one alone: what a page of each holds, septets or units.
@@ -40,27 +42,31 @@ MOST_PARTS = 255
 # All parts of letters cost to write at most so many times as many short messages of 160 letters.
 PARTS_AGAINST_MESSAGES = 1.2
 # How often the plain loop's cost is allowed to the calls on parts, where once is not kept: of UCS2 the plain loop is vector code from end to end.
-PART_TIMES = {("write", "parts-ucs2", "han"): 1.25, ("write", "part-ucs2", "han"): 1.3,
-              ("read", "parts-ucs2", "han"): 1.7, ("read", "part-ucs2", "han"): 1.9}
+PART_TIMES = {("write", "parts-ucs2", "han"): 1.25, ("write", "part-ucs2", "han"): 1.33,
+              ("read", "parts-ucs2", "han"): 1.82, ("read", "part-ucs2", "han"): 2.04}
 # The calls that count pages or parts only test a text of letters: instructions a letter, at most.
-COUNTING = {"wikuay_count_pages": 2, "wikuay_count_parts": 2}
+COUNTING = {"wikuay_count_pages": 2.01, "wikuay_count_parts": 2}
 # How often the plain loop's cost is allowed, where once is not kept: of UCS2 the plain loop is vector code from end to end.
-TIMES = {("write", "pages-ucs2"): 1.05, ("write", "built-ucs2"): 1.45, ("read", "pages-ucs2"): 3,
-         ("write", "lettered-ucs2"): 1.8, ("read", "lettered-ucs2"): 1.2}
+TIMES = {("write", "pages-ucs2"): 1.05, ("write", "built-ucs2"): 1.45, ("read", "pages-ucs2"): 3.17,
+         ("write", "lettered-ucs2"): 1.82, ("read", "lettered-ucs2"): 1.27}
 # Texts that are refused for their last unit, and the accepted text that the same pass judges: its last unit is listed, and is not its own code.
 REFUSED = ("refused", "circumflex")
 ACCEPTED = "accent"
 # A unit that is searched for in vain costs so many instructions more than one that is found, at most.
-IN_VAIN = 16
-ARCHIVE_OCTETS = 41 * 1024
+IN_VAIN = 21
+ARCHIVE_OCTETS = 46 * 1024
 STACK_OCTETS = 1024
 # The septets of 15 pages stand in an array of 1,395 octets, their units of UCS2 in one of 1,230.
-PAGED_STACK_OCTETS = 2304
+PAGED_STACK_OCTETS = 2432
 # The calls on parts hold no more than the calls on pages do, whatever the text's length.
 PARTED_STACK_OCTETS = 2304
 # From this length on the library is at least as fast as the plain loop. Eight units with an accented one are tested in vain, and lose a tenth.
 FROM = 8
 FROM_ACCEPTED = 9
+# A short message or USSD text of up to so many septets may cost so many instructions more to read: what is told of a text costs more than a few septets do.
+SHORT = 18
+SHORT_SERVICES = ("sms", "ussd")
+SHORT_READ_MORE = 64
 # Behind a header fewer septets than these have no limit to read: what is told of a part costs more than they do.
 FROM_BEHIND = 16
 MOST_LINES = 1000
@@ -140,7 +146,8 @@ def broken_by_figures(rows, timed):
             plain = cost.get(key + ("plain",))
             # The spread of a time is not a fault: a tenth is allowed there.
             times = allowed(r.direction, r.service, r.text) * (1.1 if timed else 1)
-            hold(f"{name}: against the plain loop", r.cost, plain and plain * times)
+            more = SHORT_READ_MORE if not timed and r.direction == "read" and r.service in SHORT_SERVICES and r.length <= SHORT else 0
+            hold(f"{name}: against the plain loop", r.cost, plain and plain * times + more)
         searching = cost.get(key + ("search",))
         if searching and held_to_plain(r) and not timed:
             hold(f"{name}: against the loop that searches", r.cost, SEARCH_PART * searching)
@@ -171,7 +178,7 @@ def broken_by_figures(rows, timed):
             hold(f"{name}: instructions a letter", r.cost / r.length, COUNTING[r.service])
         if not timed and r.service == "sms-ucs2" and r.length == FULL_UCS2:
             swap = cost.get(key + ("swap",))
-            hold(f"{name}: against twice the loop that swaps", r.cost, swap and 2 * swap)
+            hold(f"{name}: against the loop that swaps", r.cost, swap and SWAP_TIMES[r.direction] * swap)
         if not timed:
             hold(f"{name}: octets of stack", r.stack, stack_allowed(r.service) - 1)
     return broken, judged
@@ -300,7 +307,10 @@ def self_test():
     breaks("plain loop", lambda r: is_ours(r) and r.service in LETTERED_UCS2 and r.length >= FROM, cost=9.0 * 1395 + 1)
     breaks("plain loop", lambda r: is_ours(r) and r.service in KEYS and r.length >= FROM, cost=9.0 * 1395 + 1)
     breaks("as many first keys", lambda r: is_ours(r) and r.service in KEYS and r.length >= FROM, cost=9.0 * 1395 + 1)
-    breaks("loop that swaps", lambda r: is_ours(r) and r.service == "sms-ucs2", cost=8 * FULL_UCS2 + 1)
+    for direction, times in SWAP_TIMES.items():
+        breaks("loop that swaps", lambda r: is_ours(r) and (r.direction, r.service) == (direction, "sms-ucs2"), cost=times * 4 * FULL_UCS2 + 1)
+    breaks("plain loop", lambda r: is_ours(r) and r.direction == "read" and r.service in SHORT_SERVICES and r.length == FROM and r.text != ACCEPTED,
+           cost=9.0 * FROM + SHORT_READ_MORE + 1)
     for service, room in PAGED.items():
         for pages in (1, 2, MOST_PAGES):
             def whole_pages(r):
