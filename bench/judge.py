@@ -16,7 +16,7 @@ MOST = {"write": 2000, "read": 1600}
 FULL = {"sms": 160, "page": 93, "ussd": 182, "pages": 1395, "lettered": 90}
 FULL_UCS2 = 70
 # How often the cost of the loop that swaps is allowed to them.
-SWAP_TIMES = {"write": 2, "read": 2.5}
+SWAP_TIMES = {"write": 2, "read": 2.12}
 # A page of UCS2 behind language letters is held to the plain loop, and not to the loop that swaps, which has no letters.
 LETTERED_UCS2 = {"lettered-ucs2": 40}
 # The keys of a meter, of a text that takes so many septets, and how often the plain loop's cost is allowed: a key that is no small letter is encoded as a
@@ -42,19 +42,19 @@ MOST_PARTS = 255
 # All parts of letters cost to write at most so many times as many short messages of 160 letters.
 PARTS_AGAINST_MESSAGES = 1.2
 # How often the plain loop's cost is allowed to the calls on parts, where once is not kept: of UCS2 the plain loop is vector code from end to end.
-PART_TIMES = {("write", "parts-ucs2", "han"): 1.25, ("write", "part-ucs2", "han"): 1.33,
-              ("read", "parts-ucs2", "han"): 1.82, ("read", "part-ucs2", "han"): 2.04}
+PART_TIMES = {("write", "parts-ucs2", "han"): 1.26, ("write", "part-ucs2", "han"): 1.34,
+              ("read", "parts-ucs2", "han"): 1.78, ("read", "part-ucs2", "han"): 2.12}
 # The calls that count pages or parts only test a text of letters: instructions a letter, at most.
-COUNTING = {"wikuay_count_pages": 2.01, "wikuay_count_parts": 2}
+COUNTING = {"wikuay_count_pages": 2.06, "wikuay_count_parts": 2}
 # How often the plain loop's cost is allowed, where once is not kept: of UCS2 the plain loop is vector code from end to end.
-TIMES = {("write", "pages-ucs2"): 1.05, ("write", "built-ucs2"): 1.45, ("read", "pages-ucs2"): 3.17,
-         ("write", "lettered-ucs2"): 1.82, ("read", "lettered-ucs2"): 1.27}
+TIMES = {("write", "pages-ucs2"): 1.12, ("write", "built-ucs2"): 1.45, ("read", "pages-ucs2"): 3.04,
+         ("write", "lettered-ucs2"): 2.01, ("read", "lettered-ucs2"): 1.2}
 # Texts that are refused for their last unit, and the accepted text that the same pass judges: its last unit is listed, and is not its own code.
 REFUSED = ("refused", "circumflex")
 ACCEPTED = "accent"
 # A unit that is searched for in vain costs so many instructions more than one that is found, at most.
 IN_VAIN = 21
-ARCHIVE_OCTETS = 46 * 1024
+ARCHIVE_OCTETS = 44 * 1024
 STACK_OCTETS = 1024
 # The septets of 15 pages stand in an array of 1,395 octets, their units of UCS2 in one of 1,230.
 PAGED_STACK_OCTETS = 2432

@@ -73,9 +73,10 @@ build() {
 }
 
 # archive: proves the exported calls and builds target/lib/libwikuay.a, where that is stale. The crate that exports them is `wikuay_c`,
-# since `wikuay` is a library of this repository, and a crate is not both.
+# since `wikuay` is a library of this repository, and a crate is not both. Its code runs on every x86-64 processor: a caller's program would
+# not be told that one lacks what the kit's own choice, x86-64-v2, needs.
 archive() {
-  ! stale target/lib/libwikuay.a || build wikuay_c libwikuay_c.a target/lib/libwikuay.a lib
+  ! stale target/lib/libwikuay.a || build wikuay_c libwikuay_c.a target/lib/libwikuay.a lib --cpu=x86-64
 }
 
 # program NAME: proves and builds target/bin/NAME and what it stands on, where that is stale. rt runs what it builds: on the words that
