@@ -3,11 +3,11 @@
 -- answer holds the unmentioned values."
 -- Own rule: text held is 1 for 7-bit and 2 for UCS2. Cited by the definitions of the exported calls. Assumes nothing.
 --   filled_answer, packed_answer, octet_written_answer, message_written_answer == what C gets of a call that writes or fills a buffer
---   octet_read_answer, held_answer, message_read_answer                       == what C gets of a call that reads a coding octet
---   shown_told x a, lettered_told ucs2 a, refused_told q                    == what is told on the way to the last of them: of a text by itself with its
---                                                                           reading x, of a page behind letters, of a refusal
---   told_answer a                                                         == what C gets of that
---   refused_answer, read_refused_answer                                     == the same of a refusal by itself
+--   octet_read_answer, held_answer, message_read_answer                        == what C gets of a call that reads a coding octet
+--   shown_told x a, lettered_told ucs2 a, refused_told q                       == what is told on the way to the last of them: of a text by itself with its
+--                                                                                 reading x, of a page behind letters, of a refusal
+--   told_answer a                                                              == what C gets of that
+--   refused_answer, read_refused_answer                                        == the same of a refusal by itself
 use Rattle.std.specs.Prelude.{ℕ, Bool}
 use Rattle.words.specs.declared.Refusal.{Refusal}
 use Rattle.words.specs.declared.Filled.{Filled}

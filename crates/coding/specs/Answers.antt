@@ -1,9 +1,9 @@
 -- Document 01, "Refusal numbers and their order": what the calls on a data coding octet report. "A refusal reports 0 written, count 0 and
 -- data coding octet 0, and any reading in its answer holds the unmentioned values."
 -- Own rule: none. Assumes nothing.
---   read_number, read_position, read_reading           == what read_octet reports
---   written_number, written_position, written_octet    == what Reading::write reports
---   held_number, held_position                        == what Reading::holds reports
+--   read_number, read_position, read_reading        == what read_octet reports
+--   written_number, written_position, written_octet == what Reading::write reports
+--   held_number, held_position                      == what Reading::holds reports
 use Rattle.std.specs.Prelude.{ℕ}
 use Rattle.words.specs.Refusals.{number_of, position_of}
 use Rattle.coding.specs.declared.Reading.{Reading}

@@ -2,7 +2,7 @@
 -- Own rule: none. The theorem octet-counts says that they are right. Assumes nothing.
 --   reserved_octets s   == the octets that are reserved under service s
 --   writable_readings s == the readings that can be written under service s
---   counts             == a line for each service: reserved octets, writable readings
+--   counts              == a line for each service: reserved octets, writable readings
 use Rattle.std.specs.Prelude.{ℕ, zero, suc, Bool, true, false, List, [], ◌∷◌, eqb}
 use Rattle.words.specs.declared.Service.{Service}
 use Rattle.words.specs.declared.Service.TheVariants.{ShortMessage, Broadcast, Ussd}

@@ -1,10 +1,10 @@
 -- Document 01, "Reading the data coding octet": "Writing a reading gives the smallest octet that reads so under that service. It is
 -- refused when the reserved mark is set or no octet reads so." An old page is read only.
 -- Own rule: none. Cited by Reading::write. Assumes nothing.
---   same_coding a b   == a and b are alike in every field that an octet tells
+--   same_coding a b  == a and b are alike in every field that an octet tells
 --   smallest s r     == the first octet of 0 to 255 that reads as r under service s, and 256 where none does
---   write_rules s r   == the refusals of writing r under s, in order
---   octet_writes s r  == the octet that writing r under s gives, or the refusal
+--   write_rules s r  == the refusals of writing r under s, in order
+--   octet_writes s r == the octet that writing r under s gives, or the refusal
 use Rattle.std.specs.Prelude.{ℕ, Bool, false, cond, List, [], ◌∷◌, ◌++◌, eqb}
 use Rattle.octets.specs.Smallest.{first_octet}
 use Rattle.words.specs.Sizes.{is_old_page}

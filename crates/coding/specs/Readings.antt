@@ -1,12 +1,12 @@
 -- Document 01, "Reading the data coding octet": what a reading holds where a rule does not mention it, and a reading changed in one field.
 -- Document 02, W2: "The reading that all calls share gains the two letters." W3: "The reading gains a mark for the header."
 -- Own rule: none. Cited by Reading::of, Reading::plain, Reading::with_alphabet and Reading::with_letters. Assumes nothing.
---   lettered t a z c l d n p r h  == the reading of alphabet a, class c, language l, notice n and the marks compressed z, deletion d, prefix p, reserved r,
---                                    header h, with the letters t
+--   lettered t a z c l d n p r h   == the reading of alphabet a, class c, language l, notice n and the marks compressed z, deletion d, prefix p, reserved r,
+--                                     header h, with the letters t
 --   reading_from a z c l d n p r h == the same with both letters absent
---   unmentioned       == the values of what a rule does not mention
---   plain_in ucs2      == the same, but UCS2 where ucs2 is true
---   reserved_reading   == how a reserved coding reads: the unmentioned values with the reserved mark
+--   unmentioned                    == the values of what a rule does not mention
+--   plain_in ucs2                  == the same, but UCS2 where ucs2 is true
+--   reserved_reading               == how a reserved coding reads: the unmentioned values with the reserved mark
 --   with_alphabet a r, with_compressed b r, with_class c r, with_language l r, with_deletion b r, with_notice n r, with_prefix b r, with_header b r, with_letters t r
 --                     == r with that field changed
 --   without_letters r  == r with both letters absent

@@ -1,16 +1,16 @@
 -- The words of the three demands, in which their theorems are stated (proofs/Accepting.antt, proofs/Demands.antt).
 -- Own rule: none. Cited by those theorems alone, and by no contract. Assumes nothing.
---   HoldsText r                          == a reading that holds text: not compressed, none of 8-bit, WAP and I1, neither prefix mark nor header mark
---   Writable service r t room            == no rule of the whole writer refuses the text t under the reading r (8, 1, 2, 3, 6, 5, 7)
+--   HoldsText r                            == a reading that holds text: not compressed, none of 8-bit, WAP and I1, neither prefix mark nor header mark
+--   Writable service r t room              == no rule of the whole writer refuses the text t under the reading r (8, 1, 2, 3, 6, 5, 7)
 --   Readable service coding count o room r == no rule of the whole reader refuses the octets o, which read as r (1, 2, 3, 4, 7)
---   LetteredWritable r t room            == none refuses the text t on a broadcast page behind the letters of r (8, 1, 2, 11, 6, 5, 7)
---   LetteredReadable coding count o room == none refuses the octets o of such a page (1, 2, 4, 11, 7)
---   Accepted service r t out             == the writer, lent the buffer out, answers without a refusal
+--   LetteredWritable r t room              == none refuses the text t on a broadcast page behind the letters of r (8, 1, 2, 11, 6, 5, 7)
+--   LetteredReadable coding count o room   == none refuses the octets o of such a page (1, 2, 4, 11, 7)
+--   Accepted service r t out               == the writer, lent the buffer out, answers without a refusal
 --   sent, sent_count, sent_coding          == the octets that it leaves at the front of out, as many as it reports; the count; the coding octet
---   Comes service coding count o r text  == the reader, lent any buffer with room for the text, accepts the octets o, answers with the reading r and
---                                           leaves the text at the front of the buffer
---   FilledByCr t                         == the text fills a non-zero multiple of eight septets and ends in a carriage return
---   OneCrMore t u                        == u is t with a single carriage return added, where t is filled so
+--   Comes service coding count o r text    == the reader, lent any buffer with room for the text, accepts the octets o, answers with the reading r and
+--                                             leaves the text at the front of the buffer
+--   FilledByCr t                           == the text fills a non-zero multiple of eight septets and ends in a carriage return
+--   OneCrMore t u                          == u is t with a single carriage return added, where t is filled so
 use Rattle.std.specs.Prelude.{◌≡◌, true, false, List, [], ◌∷◌, ◌++◌, ◌⊎◌, ℕ, ◌%◌, ◌<◌, ◌≤◌, length, take}
 use Rattle.words.specs.declared.Service.{Service}
 use Rattle.words.specs.declared.Service.TheVariants.{Broadcast}

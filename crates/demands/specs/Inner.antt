@@ -1,8 +1,8 @@
 -- Inner: what private functions answer on the way. No public contract cites this file.
 -- Assumes nothing.
---   held_reads, held_read_leaves    == the reader of a text by itself behind the coding octet: 1, 2, 3, 4, 7
---   shown_as r answer             == the answer of reading text, with the reading r
---   packed_as, units_as            == the answer of packing, with the coding octet, and of UCS2 with the length count too
+--   held_reads, held_read_leaves == the reader of a text by itself behind the coding octet: 1, 2, 3, 4, 7
+--   shown_as r answer            == the answer of reading text, with the reading r
+--   packed_as, units_as          == the answer of packing, with the coding octet, and of UCS2 with the length count too
 use Rattle.std.specs.Prelude.{ℕ, List, ◌++◌, length}
 use Rattle.words.specs.declared.Service.{Service}
 use Rattle.words.specs.declared.Filled.{Filled}

@@ -4,17 +4,17 @@
 -- A text by itself is read as UCS2 where ucs2 is true, else as 7-bit text:
 --   fits_text service ucs2 octets count == so many octets fit the service and the count
 --   held_text service ucs2 count o      == the units that the octets o hold
---   text_length_rules                    == what refuses the octets, where the lent buffer has that much room
---   text_reads, text_read_leaves          == what read_text answers, and what it leaves in the lent buffer
+--   text_length_rules                   == what refuses the octets, where the lent buffer has that much room
+--   text_reads, text_read_leaves        == what read_text answers, and what it leaves in the lent buffer
 -- A page behind the letters of its language, by itself, under the reading r:
---   lettered_as r answer                == the answer, with the letters in the reading
---   page_reads, page_read_leaves          == what read_page answers, and what it leaves in the lent buffer
+--   lettered_as r answer         == the answer, with the letters in the reading
+--   page_reads, page_read_leaves == what read_page answers, and what it leaves in the lent buffer
 -- A message's text is read as its coding octet says, on a page with the prefix mark behind its letters:
---   clear_rules r, heard_rules s r == what a reading is refused for: 1, 2, and 3 but on such a page
+--   clear_rules r, heard_rules s r              == what a reading is refused for: 1, 2, and 3 but on such a page
 --   fits_reading, text_of_message, length_rules == the same of octets that are read as the reading r
---   reading_of_message service r o == the reading r, on such a page with the letters that it begins with
---   read_rules service coding count o room == the refusals, where the lent buffer has that much room
---   read_answers, read_leaves            == what read_message answers, and what it leaves in the lent buffer
+--   reading_of_message service r o              == the reading r, on such a page with the letters that it begins with
+--   read_rules service coding count o room      == the refusals, where the lent buffer has that much room
+--   read_answers, read_leaves                   == what read_message answers, and what it leaves in the lent buffer
 use Rattle.std.specs.Prelude.{ℕ, Bool, not, cond, List, [], ◌∷◌, ◌++◌, ltb, length}
 use Rattle.words.specs.declared.Service.{Service}
 use Rattle.words.specs.declared.Refusal.TheVariants.{Compressed, NoText, WrongLength, NoRoom}

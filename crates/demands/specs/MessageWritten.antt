@@ -2,18 +2,18 @@
 -- Document 02, W2: "Refusals: 11, in the place of 3 on writing", of one broadcast page with the prefix mark.
 -- Own rule: none. Cited by write_message, write_page and write_text. Assumes nothing.
 -- A text by itself is written as UCS2 where ucs2 is true, else as 7-bit text:
---   over_size                    == the text is over the service's size
---   text_octets, text_count       == its octets and its length count: of a short message the septets of 7-bit text and the octets of UCS2, else 0
---   text_size_rules               == what refuses it for the service's size, where the lent buffer has that much room
+--   over_size                      == the text is over the service's size
+--   text_octets, text_count        == its octets and its length count: of a short message the septets of 7-bit text and the octets of UCS2, else 0
+--   text_size_rules                == what refuses it for the service's size, where the lent buffer has that much room
 --   text_writes, text_write_leaves == what write_text answers, and what it leaves in the lent buffer
 -- A page behind the letters of its language, by itself, under a coding octet:
---   page_as coding answer        == the answer, with the coding octet
+--   page_as coding answer          == the answer, with the coding octet
 --   page_writes, page_write_leaves == what write_page answers, and what it leaves in the lent buffer
 -- A message's text is written as its reading says, on a page with the prefix mark behind its letters:
---   letter_rules r, mark_rules s r == what a reading is refused for: 1, 2, and 3 or in its place 11
+--   letter_rules r, mark_rules s r            == what a reading is refused for: 1, 2, and 3 or in its place 11
 --   message_octets, message_count, size_rules == the same of a text that is written as the reading r
---   write_rules service r units room == the refusals, where the lent buffer has that much room
---   write_answers, write_leaves   == what write_message answers, and what it leaves in the lent buffer
+--   write_rules service r units room          == the refusals, where the lent buffer has that much room
+--   write_answers, write_leaves               == what write_message answers, and what it leaves in the lent buffer
 use Rattle.std.specs.Prelude.{ℕ, Bool, not, cond, List, [], ◌∷◌, ◌++◌, length}
 use Rattle.words.specs.declared.Service.{Service}
 use Rattle.words.specs.declared.Refusal.TheVariants.{Compressed, NoText, WrongLetters, Unwritable}

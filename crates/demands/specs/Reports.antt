@@ -1,7 +1,7 @@
 -- Document 01, "Refusal numbers and their order": what the whole reader and the whole writer report. "A refusal reports 0 written,
 -- count 0 and data coding octet 0, and any reading in its answer holds the unmentioned values."
 -- Own rule: none. Assumes nothing.
---   read_number, read_position, read_written, read_reading              == what an answer of the reader reports
+--   read_number, read_position, read_written, read_reading                 == what an answer of the reader reports
 --   write_number, write_position, write_written, write_count, write_coding == what an answer of the writer reports
 use Rattle.std.specs.Prelude.{ℕ}
 use Rattle.words.specs.Refusals.{number_of, position_of}

@@ -1,8 +1,8 @@
 -- A number for each value of a reading's fields, no two values of a field the same. They compare readings here, and name the values in C.
 -- Own rule: the numbers are ours; languages 0 to 15 are those of bits 3..0 of group 0000, 16 to 20 those of group 0010. Cited by the number methods, flag and notice_at. Assumes nothing.
 --   alphabet_no, class_no, language_no, kind_no, notice_no, flag_no == the number of a value
---   alphabets, classes, languages, kinds                      == the values in the order of their numbers
---   notice_at n                                                == the notice of the number n
+--   alphabets, classes, languages, kinds                            == the values in the order of their numbers
+--   notice_at n                                                     == the notice of the number n
 use Rattle.std.specs.Prelude.{ℕ, ◌+◌, ◌*◌, ◌/◌, ◌%◌, Bool, true, false, cond, List, [], ◌∷◌, eqb, ltb, get_or}
 use Rattle.fields.specs.declared.Alphabet.{Alphabet}
 use Rattle.fields.specs.declared.Alphabet.TheVariants.{SevenBit, EightBit, Ucs2, Wap, I1}

@@ -3,23 +3,23 @@
 -- repeated one the last counts." "Refusals: 12 .. for a header longer than the octets .. or an element running past it or of wrong length".
 -- Own rule: every occurrence of a known element must have its length, though only the last counts. No octets hold no header.
 -- Cited by read_header, concatenation_header and septets_taken. Assumes nothing.
---   Element                == an identifier, and the octets of its data
---   element_octets e        == the octets of an element
---   elements_octets es      == those of elements, one after the other
---   header_octets es        == the header with these elements: the length octet in front of them
---   Elements               == elements that some octets are, or broken where one runs past their end
---   elements_up_to m o       == the elements that the octets o are, if there are no more than m
---   elements_of o           == the elements that they are: each takes an octet at least
---   concatenation          == the identifier of the concatenation element, whose data are three octets
---   numbers_of e            == what such an element says
---   last_numbers found es   == what the last of the elements says that is one, and what was found before where none is
---   wrong_length es         == one of the elements is a concatenation element of another length
+--   Element                      == an identifier, and the octets of its data
+--   element_octets e             == the octets of an element
+--   elements_octets es           == those of elements, one after the other
+--   header_octets es             == the header with these elements: the length octet in front of them
+--   Elements                     == elements that some octets are, or broken where one runs past their end
+--   elements_up_to m o           == the elements that the octets o are, if there are no more than m
+--   elements_of o                == the elements that they are: each takes an octet at least
+--   concatenation                == the identifier of the concatenation element, whose data are three octets
+--   numbers_of e                 == what such an element says
+--   last_numbers found es        == what the last of the elements says that is one, and what was found before where none is
+--   wrong_length es              == one of the elements is a concatenation element of another length
 --   header_size o, header_body o == how many octets the header in front of o takes, by its length octet, and the octets behind that one
---   right_header o          == a header stands in front of o
---   header_numbers o        == the numbers that it gives
---   header_reads o          == what read_header answers
---   concatenation_header n  == the header that gives these numbers and nothing else
---   septets_over h          == how many septets a header of h octets takes: those that it reaches into
+--   right_header o               == a header stands in front of o
+--   header_numbers o             == the numbers that it gives
+--   header_reads o               == what read_header answers
+--   concatenation_header n       == the header that gives these numbers and nothing else
+--   septets_over h               == how many septets a header of h octets takes: those that it reaches into
 use Rattle.std.specs.Prelude.{ℕ, zero, suc, ◌+◌, ◌*◌, ◌/◌, Bool, true, false, not, cond, ◌&&◌, ◌||◌, List, [], ◌∷◌, ◌++◌, ltb, leb, eqb, length, get_or, take, drop}
 use Rattle.words.specs.declared.Refusal.TheVariants.{WrongHeader}
 use Rattle.words.specs.Judging.{Rule, when, verdict, settle}

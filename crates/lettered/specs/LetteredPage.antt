@@ -5,17 +5,17 @@
 -- Own rule: as on a page without letters, UCS2 is filled up with 000D, and closing 000D units are dropped. Cited by lettering::write_lettered and
 -- lettering::read_lettered, and by the definitions of the whole writer and the whole reader. Assumes nothing.
 -- A page is UCS2 where ucs2 is true, else 7-bit:
---   room_septets, room_units       == how much text has room behind the letters
---   lettered_septets l s          == the septets s of a text behind the letters l and their CR
---   lettered_units us             == the 40 units of a page with the text us
---   lettered_octets ucs2 l units  == the octets of a page with the letters l and the text units
---   letters_in o, closed_by_cr o    == the letters that the page with the octets o begins with; whether a CR is behind them
---   wrong_letters ucs2 o          == "a letter is not a to z or the CR is missing"
---   lettered_text ucs2 o          == its text: letters and CR are taken off first, then closing CRs dropped from the rest
+--   room_septets, room_units     == how much text has room behind the letters
+--   lettered_septets l s         == the septets s of a text behind the letters l and their CR
+--   lettered_units us            == the 40 units of a page with the text us
+--   lettered_octets ucs2 l units == the octets of a page with the letters l and the text units
+--   letters_in o, closed_by_cr o == the letters that the page with the octets o begins with; whether a CR is behind them
+--   wrong_letters ucs2 o         == "a letter is not a to z or the CR is missing"
+--   lettered_text ucs2 o         == its text: letters and CR are taken off first, then closing CRs dropped from the rest
 -- What is refused, where the lent buffer has that much room:
---   lettered_size_rules, lettered_write_rules  == a text by its size: 6, 5, 7; by its letters first: 11, 6, 5, 7
+--   lettered_size_rules, lettered_write_rules == a text by its size: 6, 5, 7; by its letters first: 11, 6, 5, 7
 --   lettered_writes, lettered_write_leaves    == what write_lettered answers, and what it leaves in the lent buffer
---   lettered_read_rules                      == octets: 4, 11, 7
+--   lettered_read_rules                       == octets: 4, 11, 7
 --   lettered_reads, lettered_read_leaves      == what read_lettered answers, and what it leaves in the lent buffer
 use Rattle.std.specs.Prelude.{ℕ, Bool, not, cond, ◌&&◌, ◌||◌, List, [], ◌∷◌, ◌++◌, ltb, eqb, length, drop, get_or, replicate}
 use Rattle.lists.specs.Lists.{laid}

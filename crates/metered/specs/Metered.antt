@@ -2,16 +2,16 @@
 -- key: add a unit, take the last one back, clear. Taking back names the unit that goes. .. A key with an unlisted unit, or one that would take the sum
 -- below zero or above 65,535 septets, changes nothing. Refusals: 6, then 5."
 -- Own rule: 6 and 5 are at position 0; an unlisted unit has no septets. Cited by the calls of meter. Assumes nothing.
---   Key           == a key: add u types the unit u, back u takes the unit u back, clear takes the whole text
---   new_meter s    == a new meter for a service
---   remains m     == the number that is shown: the service's size less the septets used
---   unit_septets u == how many septets the unit u takes
---   of_unlisted k  == the key's unit is unlisted
---   sum_after m k  == the sum that the key would leave
---   no_sum z       == a sum is below zero or above 65,535 septets
---   key_rules m k  == what refuses a key: 6, 5
---   refused_key m  == what a refused key gives: the record as it was
---   keyed m k     == what a key gives: the record after it, and its answer
+--   Key                              == a key: add u types the unit u, back u takes the unit u back, clear takes the whole text
+--   new_meter s                      == a new meter for a service
+--   remains m                        == the number that is shown: the service's size less the septets used
+--   unit_septets u                   == how many septets the unit u takes
+--   of_unlisted k                    == the key's unit is unlisted
+--   sum_after m k                    == the sum that the key would leave
+--   no_sum z                         == a sum is below zero or above 65,535 septets
+--   key_rules m k                    == what refuses a key: 6, 5
+--   refused_key m                    == what a refused key gives: the record as it was
+--   keyed m k                        == what a key gives: the record after it, and its answer
 --   pressed_number, pressed_position == what an answer reports: the refusal's number and position, and 0 of a key that goes
 use Rattle.std.specs.Prelude.{ℕ, Bool, false, ◌||◌, List, [], ◌∷◌, ◌++◌, ℤ, pos, ◌+ℤ◌, ◌-ℤ◌, nat_abs, length}
 use Rattle.std.specs.Int.Signed.{lt_z}

@@ -1,10 +1,10 @@
 -- Document 02, W4: "For any keys whose taking back matches the text of the accepted keys, the shown number equals the service's size less the septets of
 -- that text counted afresh." The words in which that is stated (proofs/Theorems.antt).
 -- Own rule: none; a take-back that is refused need not match. Cited by theorems alone, and by no contract. Assumes nothing.
---   Called m k a n      == what a call of the key k says: on the record m it answered a and left n. The contract of each call of meter is this (meter/proofs/Theorems.antt)
---   Follows t k a u     == u is the text of the accepted keys once the key k was answered a, where it was t before: a take-back that goes names its last unit
---   Step                == a key, what it was answered, and the record and the text after it
---   Types m t steps     == from the record m and the text t on, a call for each key, one after the other
+--   Called m k a n        == what a call of the key k says: on the record m it answered a and left n. The contract of each call of meter is this (meter/proofs/Theorems.antt)
+--   Follows t k a u       == u is the text of the accepted keys once the key k was answered a, where it was t before: a take-back that goes names its last unit
+--   Step                  == a key, what it was answered, and the record and the text after it
+--   Types m t steps       == from the record m and the text t on, a call for each key, one after the other
 --   last_meter, last_text == the record and the text at the end
 use Rattle.std.specs.Prelude.{◌≡◌, List, [], ◌∷◌, ◌++◌, ℕ}
 use Rattle.metered.specs.declared.Meter.{Meter}

@@ -3,11 +3,11 @@
 -- "a refused array is all zero".
 -- Own rule: a refusal reports 0 pages, and the sequence number and the message identifier 0. Cited by the definitions of the exported calls.
 -- Assumes nothing.
---   header_numbers h                                     == what C gets of the header of a block
+--   header_numbers h                                                  == what C gets of the header of a block
 --   counted_answer, pages_written_answer, built_answer, joined_answer == what C gets of count_pages, write_pages, build_page and join_pages
---   pages_done_answer, join_done_answer                     == the same of a success by itself
---   page_answer a octets                                 == the answer a of building a page, with its block
---   pages_refused_answer, page_refused_answer, join_refused_answer == the same of a refusal by itself
+--   pages_done_answer, join_done_answer                               == the same of a success by itself
+--   page_answer a octets                                              == the answer a of building a page, with its block
+--   pages_refused_answer, page_refused_answer, join_refused_answer    == the same of a refusal by itself
 use Rattle.std.specs.Prelude.{ℕ, List, replicate}
 use Rattle.words.specs.declared.Refusal.{Refusal}
 use Rattle.words.specs.Refusals.{number_of, position_of}

@@ -1,13 +1,13 @@
 -- What private functions of the calls with pages say of themselves: no contract of a public call cites this file.
 -- Own rule: none. Assumes nothing.
---   sized_as ucs2 units, paged_as room n == how many pages a text takes, or 6 or 5; how many n take where a page has that room, or 5
---   refused_built q            == the answer of a page that is refused
+--   sized_as ucs2 units, paged_as room n      == how many pages a text takes, or 6 or 5; how many n take where a page has that room, or 5
+--   refused_built q                           == the answer of a page that is refused
 --   text_built, text_pages, text_pages_leaves == building one page and writing all pages of a text under a coding octet, by itself: 6, 5, then 10 or 7
---   text_joins, text_join_leaves == the joining of blocks whose coding octet is read as ucs2 says, and what it leaves in the lent buffer: 10, 7
---   held_joins, held_join_leaves == the joining of blocks whose first has the header h and is read as r: 1, 2, 3, 10, 7
---   joined_as h r answer       == the answer of joining text, with the header h and the reading r
---   wrong_order                == the order of pages that are wrong
---   Places o places           == the place of each page stands in the table at its number, one more than it is
+--   text_joins, text_join_leaves              == the joining of blocks whose coding octet is read as ucs2 says, and what it leaves in the lent buffer: 10, 7
+--   held_joins, held_join_leaves              == the joining of blocks whose first has the header h and is read as r: 1, 2, 3, 10, 7
+--   joined_as h r answer                      == the answer of joining text, with the header h and the reading r
+--   wrong_order                               == the order of pages that are wrong
+--   Places o places                           == the place of each page stands in the table at its number, one more than it is
 use Rattle.std.specs.Prelude.{ℕ, suc, ◌≤◌, ◌≡◌, Bool, false, List, [], ◌∷◌, ◌++◌, ltb, length, get_or, replicate}
 use Rattle.words.specs.declared.Filled.{Filled}
 use Rattle.words.specs.declared.Filled.TheVariants as filled

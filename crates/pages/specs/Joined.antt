@@ -4,15 +4,15 @@
 -- headers or totals"; then 7.
 -- Own rule: headers are octets 1 to 5, compared as they stand. Cited by join_pages. Assumes nothing.
 --   block_count o, block_at o i, header_at o i == how many blocks the octets o are; block i of them, from 0, and its header
---   number_at o i, total_at o i == the number and the total in block i
---   place_of o k        == the first block with the number k, and how many blocks there are where none has it
---   of_one_message a b   == the blocks a and b have the same octets 1 to 5 and the same total
---   alike_at o i        == block i is of the message of the first one
---   wrong_pages o       == a page is missing, repeated or misnumbered, or a block differs from the first (wrong_among)
---   page_content ucs2 t == what a page with the octets t holds: units of UCS2, or septets
---   joined_from ucs2 o k n == what n pages from page k on hold, in their order
---   joined_content, joined_text == what all pages hold, closing CRs dropped; the text of it
---   join_rules, join_answers, join_leaves == what join_pages refuses, answers and leaves in the lent buffer
+--   number_at o i, total_at o i                == the number and the total in block i
+--   place_of o k                               == the first block with the number k, and how many blocks there are where none has it
+--   of_one_message a b                         == the blocks a and b have the same octets 1 to 5 and the same total
+--   alike_at o i                               == block i is of the message of the first one
+--   wrong_pages o                              == a page is missing, repeated or misnumbered, or a block differs from the first (wrong_among)
+--   page_content ucs2 t                        == what a page with the octets t holds: units of UCS2, or septets
+--   joined_from ucs2 o k n                     == what n pages from page k on hold, in their order
+--   joined_content, joined_text                == what all pages hold, closing CRs dropped; the text of it
+--   join_rules, join_answers, join_leaves      == what join_pages refuses, answers and leaves in the lent buffer
 use Rattle.std.specs.Prelude.{ℕ, zero, suc, ◌*◌, ◌/◌, ◌%◌, Bool, true, not, cond, ◌&&◌, List, [], ◌∷◌, ◌++◌, ltb, eqb, length, take, drop, get_or}
 use Rattle.words.specs.declared.Service.TheVariants.{Broadcast}
 use Rattle.words.specs.declared.Refusal.TheVariants.{WrongLength, WrongPages, NoRoom}

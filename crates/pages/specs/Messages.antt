@@ -1,17 +1,17 @@
 -- The words in which the theorems of messages of several pages are stated (proofs/Demands.antt).
 -- Own rule: none. Cited by those theorems alone, and by no contract. Assumes nothing.
---   filled_to n s     == s filled up with CR to the length n
+--   filled_to n s                                             == s filled up with CR to the length n
 --   count_numbers, build_numbers, write_numbers, join_numbers == the numbers that each call can refuse with, in their order
---   one_of n ns       == n is one of the numbers ns
---   PagesWritable r t == no rule refuses to count the pages of the text t under the reading r (8, 1, 2, 3, 6, 5)
---   PageBuildable r t k, PagesStorable r t room == no rule refuses to build page k of it (nor 10), to write all pages into a buffer of that room (nor 7)
---   PagesJoinable o room == no rule refuses to join the blocks o into a buffer of that room (4, 10 of no block, 1, 2, 3, 10, 7)
---   Sends sequence identifier r t out == write_pages, lent the buffer out, answers without a refusal
---   sent_blocks sequence identifier r t out == the octets that it leaves at the front of out, as many as it reports
---   Reordered m o    == the blocks o are the blocks m in any order: block i of o is block `from i` of m, and block k of m is block `to k` of o
---   Joins o r sequence identifier pages text == join_pages, lent any buffer with room for the text, accepts the blocks o, answers with the reading, the
---                       header and the pages, and leaves the text at the front of the buffer
---   ReadOnce o       == of the blocks o each is read once and none is left out: page k is read from block `place_of o k`, and block i is page `number_at o i`
+--   one_of n ns                                               == n is one of the numbers ns
+--   PagesWritable r t                                         == no rule refuses to count the pages of the text t under the reading r (8, 1, 2, 3, 6, 5)
+--   PageBuildable r t k, PagesStorable r t room               == no rule refuses to build page k of it (nor 10), to write all pages into a buffer of that room (nor 7)
+--   PagesJoinable o room                                      == no rule refuses to join the blocks o into a buffer of that room (4, 10 of no block, 1, 2, 3, 10, 7)
+--   Sends sequence identifier r t out                         == write_pages, lent the buffer out, answers without a refusal
+--   sent_blocks sequence identifier r t out                   == the octets that it leaves at the front of out, as many as it reports
+--   Reordered m o                                             == the blocks o are the blocks m in any order: block i of o is block `from i` of m, and block k of m is block `to k` of o
+--   Joins o r sequence identifier pages text                  == join_pages, lent any buffer with room for the text, accepts the blocks o, answers with the reading, the
+--                                                                header and the pages, and leaves the text at the front of the buffer
+--   ReadOnce o                                                == of the blocks o each is read once and none is left out: page k is read from block `place_of o k`, and block i is page `number_at o i`
 use Rattle.std.specs.Prelude.{◌≡◌, Bool, false, ◌||◌, List, [], ◌∷◌, ℕ, ◌*◌, ◌%◌, ◌<◌, ◌≤◌, eqb, length, take, replicate}
 use Rattle.words.specs.declared.Service.TheVariants.{Broadcast}
 use Rattle.lists.specs.Lists.{laid}

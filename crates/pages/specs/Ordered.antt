@@ -1,8 +1,8 @@
 -- Document 02, W1: which of the blocks holds which page, where they are the pages of one message.
 -- Own rule: what is wrong has no places. Cited by block_at and page_order. Assumes nothing.
 --   block_or_zeros o i == block i of the octets o, from 0, and zeros where there is none
---   table_of o        == for each number from 0 to 15 one more than the place of the first block with it, and 0 where none has it
---   order_of o        == whether the blocks are the pages of one message, and the table of their places
+--   table_of o         == for each number from 0 to 15 one more than the place of the first block with it, and 0 where none has it
+--   order_of o         == whether the blocks are the pages of one message, and the table of their places
 use Rattle.std.specs.Prelude.{ℕ, Bool, not, cond, ◌||◌, List, ltb, eqb, replicate}
 use Rattle.filling.specs.Numbered.{table_among}
 use Rattle.pages.specs.declared.Order.{Order}

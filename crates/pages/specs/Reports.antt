@@ -1,8 +1,8 @@
 -- Document 01, "Refusal numbers and their order": what the calls with pages report. "A refusal reports 0 written", "any reading in its answer holds
 -- the unmentioned values", and "a position is 0 unless the request gives one".
 -- Own rule: none. Assumes nothing.
---   counted_number, counted_position, counted_pages                  == what count_pages reports, and build_page beside its block
---   pages_number, pages_position, pages_written, pages_pages          == what write_pages reports
+--   counted_number, counted_position, counted_pages                                                    == what count_pages reports, and build_page beside its block
+--   pages_number, pages_position, pages_written, pages_pages                                           == what write_pages reports
 --   join_number, join_position, join_written, join_reading, join_sequence, join_identifier, join_pages == what join_pages reports
 use Rattle.std.specs.Prelude.{ℕ}
 use Rattle.words.specs.Refusals.{number_of, position_of}

@@ -1,11 +1,11 @@
 -- Document 02, W1, and document 01, "Refusal numbers and their order": how many pages a text takes (8, 1, 2, 3, 6, 5), building one page
 -- (then 10 for a page that the message lacks), writing all pages end to end (then 7 in its place). "over 15 pages is 5"; "a refused array is all zero".
 -- Own rule: none. Cited by count_pages, build_page and write_pages. Assumes nothing.
---   page_block, blocks_from     == page k, and n pages from page k on end to end, of a content under a header: sequence number, message
---                                identifier, coding octet, total
---   block_as, blocks_as         == page k, and all pages, of a text that is written as the reading r
---   count_rules, count_answers  == what refuses to count the pages of a text, and what count_pages answers
---   build_rules, built_as       == the same of build_page
+--   page_block, blocks_from                  == page k, and n pages from page k on end to end, of a content under a header: sequence number, message
+--                                               identifier, coding octet, total
+--   block_as, blocks_as                      == page k, and all pages, of a text that is written as the reading r
+--   count_rules, count_answers               == what refuses to count the pages of a text, and what count_pages answers
+--   build_rules, built_as                    == the same of build_page
 --   pages_rules, pages_answers, pages_leaves == the same of write_pages, and what it leaves in the lent buffer
 use Rattle.std.specs.Prelude.{ℕ, zero, suc, Bool, List, [], ◌∷◌, ◌++◌, ltb, length, replicate}
 use Rattle.words.specs.declared.Service.TheVariants.{Broadcast}

@@ -4,10 +4,10 @@
 -- Own rule: a refusal reports 0 parts, no mark, the reference 0 and no numbers. Counting parts reports neither a coding octet nor a mark, and a count
 -- is told of one part alone. Cited by the definitions of the exported calls. Assumes nothing.
 --   counted_answer, part_written_answer, parts_written_answer, part_read_answer, parts_joined_answer == what C gets of count_parts, write_part, write_parts, read_part
---                                                      and join_parts
---   parts_done_answer, part_done_answer, parts_join_done_answer == the same of a success by itself
---   parts_refused_answer, part_refused_answer, parts_join_refused_answer == the same of a refusal by itself
---   numbered_no c                                    == 1 where there are the numbers of a part, else 0
+--                                                                                                       and join_parts
+--   parts_done_answer, part_done_answer, parts_join_done_answer                                      == the same of a success by itself
+--   parts_refused_answer, part_refused_answer, parts_join_refused_answer                             == the same of a refusal by itself
+--   numbered_no c                                                                                    == 1 where there are the numbers of a part, else 0
 use Rattle.std.specs.Prelude.{ℕ, Bool}
 use Rattle.words.specs.declared.Refusal.{Refusal}
 use Rattle.words.specs.Refusals.{number_of, position_of}

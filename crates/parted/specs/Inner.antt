@@ -1,16 +1,16 @@
 -- What private functions of the calls with parts say of themselves: no contract of a public call cites this file.
 -- Own rule: none. Assumes nothing.
---   sized_plan ucs2 plain n       == how so many units or septets are cut, or 5
---   counted_as answer              == how many parts a plan has
---   plan_count p k, plan_octets p k == the count of part k of a plan, from 0, and how many octets it has
---   text_part, text_part_leaves      == writing one part of a text under a coding octet, by itself: 6, 5, 10, 7
+--   sized_plan ucs2 plain n                          == how so many units or septets are cut, or 5
+--   counted_as answer                                == how many parts a plan has
+--   plan_count p k, plan_octets p k                  == the count of part k of a plan, from 0, and how many octets it has
+--   text_part, text_part_leaves                      == writing one part of a text under a coding octet, by itself: 6, 5, 10, 7
 --   text_parts, text_parts_leaves, text_sizes_leaves == the same of all parts: 6, 5, 7
---   codes_in s, open_after half s   == how many of the septets s are no escapes; whether an escape stands last before what comes behind them, where half says so of
---                                    what comes before them
---   held_reads, held_read_leaves     == reading one message whose coding octet is read as r: 1, 2, 4, 12, 4, 7
---   behind_reads, behind_read_leaves == the same of its text by itself, which is UCS2 or 7-bit: 4, 12, 4, 7
---   tail_rules, tail_reads, tail_leaves == the same behind a header of h octets: 4 of evenness, 7
---   with_reading r answer, with_numbers c answer == the answer of a text, with the reading; the answer of storing it, with the numbers of the part
+--   codes_in s, open_after half s                    == how many of the septets s are no escapes; whether an escape stands last before what comes behind them, where half says so of
+--                                                       what comes before them
+--   held_reads, held_read_leaves                     == reading one message whose coding octet is read as r: 1, 2, 4, 12, 4, 7
+--   behind_reads, behind_read_leaves                 == the same of its text by itself, which is UCS2 or 7-bit: 4, 12, 4, 7
+--   tail_rules, tail_reads, tail_leaves              == the same behind a header of h octets: 4 of evenness, 7
+--   with_reading r answer, with_numbers c answer     == the answer of a text, with the reading; the answer of storing it, with the numbers of the part
 use Rattle.std.specs.Prelude.{ℕ, suc, ◌+◌, ◌*◌, Bool, cond, ◌||◌, List, [], ◌∷◌, ◌++◌, ltb, eqb, length}
 use Rattle.words.specs.declared.Filled.{Filled}
 use Rattle.words.specs.declared.Filled.TheVariants as filled

@@ -1,22 +1,22 @@
 -- What private functions that join parts say of themselves: no contract of a public call cites this file.
 -- Own rule: none. Assumes nothing.
 -- Parts are UCS2 where ucs2 is true, else 7-bit; cs are their counts and o their octets, end to end:
---   heads_judged ucs2 cs o == what the headers of all parts, and then the evenness of what stands behind them, are judged as: 12, 4
---   given_numbers c        == the numbers that a header gives, and zeros where it has none
---   refused_order q        == the answer of parts that are refused
---   held_joins, held_join_leaves == joining parts whose coding octet is read as r: 1, 2, 4, 12, 4, 10, 7
---   text_joins, text_join_leaves == the same where the reading is known to hold UCS2 or 7-bit text: 4, 12, 4, 10, 7
+--   heads_judged ucs2 cs o             == what the headers of all parts, and then the evenness of what stands behind them, are judged as: 12, 4
+--   given_numbers c                    == the numbers that a header gives, and zeros where it has none
+--   refused_order q                    == the answer of parts that are refused
+--   held_joins, held_join_leaves       == joining parts whose coding octet is read as r: 1, 2, 4, 12, 4, 10, 7
+--   text_joins, text_join_leaves       == the same where the reading is known to hold UCS2 or 7-bit text: 4, 12, 4, 10, 7
 --   joined_as r reference parts answer == the answer of storing a text, with what the parts say of it
---   Sorted ucs2 cs o places starts == nothing refuses the parts, and the tables say which has which number and where it begins
---   numbered_content ucs2 cs o k == what the part with the number k holds
---   over_in ucs2 p         == how much of the count of the part p its header takes: octets of UCS2, or septets
+--   Sorted ucs2 cs o places starts     == nothing refuses the parts, and the tables say which has which number and where it begins
+--   numbered_content ucs2 cs o k       == what the part with the number k holds
+--   over_in ucs2 p                     == how much of the count of the part p its header takes: octets of UCS2, or septets
 -- Septets are read run by run, where an escape may end one run and its code begin the next:
---   ends_open half s       == an escape without its code ends the septets s, where half says whether one stands before them
---   settled s             == s without that escape
---   run_behind half s      == s behind such an escape, or s
---   run_read last s, run_open last s == what is read of a run, which keeps such an escape only if it is the last; whether one is left for the next
---   run_in septets begin end == the run that stands between two places of an array
---   Ready septets begin end == it stands there, and its septets are septets
+--   ends_open half s                     == an escape without its code ends the septets s, where half says whether one stands before them
+--   settled s                            == s without that escape
+--   run_behind half s                    == s behind such an escape, or s
+--   run_read last s, run_open last s     == what is read of a run, which keeps such an escape only if it is the last; whether one is left for the next
+--   run_in septets begin end             == the run that stands between two places of an array
+--   Ready septets begin end              == it stands there, and its septets are septets
 --   read_up_to cs o k, open_up_to cs o k == what is read of the parts up to number k, and whether such an escape is left
 use Rattle.std.specs.Prelude.{ℕ, suc, ◌-◌, ◌≤◌, ◌<◌, ◌≡◌, Bool, true, false, cond, List, [], ◌∷◌, leb, eqb, length, get_or, take, drop}
 use Rattle.words.specs.declared.Filled.{Filled}

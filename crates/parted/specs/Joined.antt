@@ -4,16 +4,16 @@
 -- Own rule: no parts are 10, and octets beside no counts 4. Parts are of one message where their references and totals are the same. Cited by join_parts.
 -- Assumes nothing.
 -- Parts are UCS2 where ucs2 is true, else 7-bit; cs are their counts and o their octets, end to end:
---   octets_asked ucs2 c, all_asked ucs2 cs == how many octets a count asks, and all together
---   most_count ucs2          == the most that a count may be
---   start_at, part_in         == where part i, from 0, begins in o, and its octets
---   wrong_counts, wrong_heads, odd_parts == 4 of a length, 12, 4 of evenness over all parts
+--   octets_asked ucs2 c, all_asked ucs2 cs                        == how many octets a count asks, and all together
+--   most_count ucs2                                               == the most that a count may be
+--   start_at, part_in                                             == where part i, from 0, begins in o, and its octets
+--   wrong_counts, wrong_heads, odd_parts                          == 4 of a length, 12, 4 of evenness over all parts
 --   numbers_at, number_in, total_in, reference_in, of_one_message == what the header of part i says; that two parts have one reference and one total
---   number_at, total_at, alike == of part i, as W1's rule of numbered things takes them
---   wrong_parts              == parts missing, repeated, numbered 0 or above the total, of differing references or totals, or without the element; or none
---   place_of k               == the part that has the number k
---   joined_from, joined_content, joined_text == what n parts from number k on hold, what all hold, the text of it
---   join_rules, join_answers, join_leaves == what join_parts refuses, answers and leaves in the lent buffer
+--   number_at, total_at, alike                                    == of part i, as W1's rule of numbered things takes them
+--   wrong_parts                                                   == parts missing, repeated, numbered 0 or above the total, of differing references or totals, or without the element; or none
+--   place_of k                                                    == the part that has the number k
+--   joined_from, joined_content, joined_text                      == what n parts from number k on hold, what all hold, the text of it
+--   join_rules, join_answers, join_leaves                         == what join_parts refuses, answers and leaves in the lent buffer
 use Rattle.std.specs.Prelude.{ℕ, zero, suc, ◌+◌, Bool, false, not, cond, ◌&&◌, ◌||◌, List, [], ◌∷◌, ◌++◌, ltb, eqb, length, get_or, take, drop}
 use Rattle.words.specs.declared.Service.TheVariants.{ShortMessage}
 use Rattle.words.specs.declared.Refusal.TheVariants.{WrongLength, WrongHeader, WrongPages, NoRoom}

@@ -1,34 +1,34 @@
 -- The words in which the theorems of long short messages are stated (proofs/Demands.antt, proofs/All.antt, proofs/Joining.antt,
 -- proofs/Whole.antt, and those of refusals).
 -- Own rule: none. Cited by those theorems alone, and by no contract. Assumes nothing.
---   header_as r reference t k == the header of part k of the text t under the reading r, or no octets
---   content_as r t k          == what that part holds: septets, or units
---   numbers_as r reference t k == the numbers that its header gives, or none
---   ReadingWritable r        == no rule refuses the reading r of a text (8, 1, 2)
---   PartsWritable r t        == none refuses to count the parts of the text t under it (nor 6, 5)
---   PartWritable r reference t k room == none refuses to write part k of it into a buffer of that room (nor 10, 7)
---   PartsStorable r reference t room list == none refuses to write all parts of it into buffers of that room for octets and sizes (nor 7)
---   PartReadable coding marked count o room == no rule refuses to read the octets o (1, 2, 4, 12, 4, 7)
---   PartsJoinable coding cs o room == no rule refuses to join the parts with the counts cs and the octets o (1, 2, 4, 12, 4, 10, 7)
---   SendsPart r reference t k out == write_part, lent the buffer out, answers without a refusal
---   sent_part, sent_count, sent_mark, sent_coding, sent_parts == the octets that it leaves at the front of out, as many as it reports; the count; the mark; the
---                               coding octet; how many parts it reports
---   ComesPart coding marked count o r c text == read_part, lent any buffer with room for the text, accepts the octets o, answers with the reading r and the
---                               numbers c, and leaves the text at the front of the buffer
---   SendsParts r reference t out list == write_parts, lent the buffers out and list, answers without a refusal
+--   header_as r reference t k                                        == the header of part k of the text t under the reading r, or no octets
+--   content_as r t k                                                 == what that part holds: septets, or units
+--   numbers_as r reference t k                                       == the numbers that its header gives, or none
+--   ReadingWritable r                                                == no rule refuses the reading r of a text (8, 1, 2)
+--   PartsWritable r t                                                == none refuses to count the parts of the text t under it (nor 6, 5)
+--   PartWritable r reference t k room                                == none refuses to write part k of it into a buffer of that room (nor 10, 7)
+--   PartsStorable r reference t room list                            == none refuses to write all parts of it into buffers of that room for octets and sizes (nor 7)
+--   PartReadable coding marked count o room                          == no rule refuses to read the octets o (1, 2, 4, 12, 4, 7)
+--   PartsJoinable coding cs o room                                   == no rule refuses to join the parts with the counts cs and the octets o (1, 2, 4, 12, 4, 10, 7)
+--   SendsPart r reference t k out                                    == write_part, lent the buffer out, answers without a refusal
+--   sent_part, sent_count, sent_mark, sent_coding, sent_parts        == the octets that it leaves at the front of out, as many as it reports; the count; the mark; the
+--                                                                       coding octet; how many parts it reports
+--   ComesPart coding marked count o r c text                         == read_part, lent any buffer with room for the text, accepts the octets o, answers with the reading r and the
+--                                                                       numbers c, and leaves the text at the front of the buffer
+--   SendsParts r reference t out list                                == write_parts, lent the buffers out and list, answers without a refusal
 --   sent_all, sent_sizes, sent_all_mark, sent_all_coding, sent_total == the octets that it leaves at the front of out, as many as it reports, and the sizes at the
---                               front of list, two for each part; the mark; the coding octet; how many parts it reports
---   count_in z i, size_in z i  == by the sizes z, the count of part i, from 0, and how many octets it has
---   start_in z i, piece_in z m i == where it begins among the octets m, and its octets
---   counts_of z               == the counts alone, as join_parts takes them
---   Reordered ucs2 n count part cs o == the counts cs and the octets o, end to end, are n parts in any order, of which `count k` and `part k` are those of
---                               part k, from 0: part i of them is part `from i`, and part k is part `to k` of them; there are no more octets
---   pieces_from part i n      == n parts from part i on, end to end
---   JoinsParts coding cs o r reference parts text == join_parts, lent any buffer with room for the text, accepts the counts cs and the octets o, answers
---                               with the reading, the reference and the parts, and leaves the text at the front of the buffer
---   ReadOnce ucs2 cs o       == of the parts each is read once and none is left out: number k is read from part `place_of ucs2 cs o k`, and part i has the
---                               number `number_at ucs2 cs o i`
---   alone answer, unmarked answer == the answer of the base's whole writer as that of write_part for a lone message; of its whole reader as that of read_part
+--                                                                       front of list, two for each part; the mark; the coding octet; how many parts it reports
+--   count_in z i, size_in z i                                        == by the sizes z, the count of part i, from 0, and how many octets it has
+--   start_in z i, piece_in z m i                                     == where it begins among the octets m, and its octets
+--   counts_of z                                                      == the counts alone, as join_parts takes them
+--   Reordered ucs2 n count part cs o                                 == the counts cs and the octets o, end to end, are n parts in any order, of which `count k` and `part k` are those of
+--                                                                       part k, from 0: part i of them is part `from i`, and part k is part `to k` of them; there are no more octets
+--   pieces_from part i n                                             == n parts from part i on, end to end
+--   JoinsParts coding cs o r reference parts text                    == join_parts, lent any buffer with room for the text, accepts the counts cs and the octets o, answers
+--                                                                       with the reading, the reference and the parts, and leaves the text at the front of the buffer
+--   ReadOnce ucs2 cs o                                               == of the parts each is read once and none is left out: number k is read from part `place_of ucs2 cs o k`, and part i has the
+--                                                                       number `number_at ucs2 cs o i`
+--   alone answer, unmarked answer                                    == the answer of the base's whole writer as that of write_part for a lone message; of its whole reader as that of read_part
 use Rattle.std.specs.Prelude.{◌≡◌, Bool, true, false, cond, List, [], ◌∷◌, ◌++◌, ℕ, zero, suc, ◌+◌, ◌*◌, ◌<◌, ◌≤◌, length, get_or, take, drop}
 use Rattle.words.specs.declared.Service.TheVariants.{ShortMessage}
 use Rattle.lists.specs.Lists.{laid}

@@ -1,10 +1,10 @@
 -- Document 02, W5: which of the parts has which number, where they are the parts of one message: 4, 12, 4, 10, each judged over all parts before the next.
 -- Own rule: parts that are refused have no reference, no places and no starts: all are 0. Cited by part_order. Assumes nothing.
 -- Parts are UCS2 where ucs2 is true, else 7-bit; cs are their counts and o their octets, end to end:
---   order_rules ucs2 cs o == what refuses them
---   places_of ucs2 cs o   == for each number from 0 to 255 one more than the place of the first part with it, and 0 where none has it
---   starts_of ucs2 cs     == for each place from 0 to 255 where the part there begins, and 0 where there is none
---   part_order_of ucs2 cs o == whether they are the parts of one message, and their reference
+--   order_rules ucs2 cs o    == what refuses them
+--   places_of ucs2 cs o      == for each number from 0 to 255 one more than the place of the first part with it, and 0 where none has it
+--   starts_of ucs2 cs        == for each place from 0 to 255 where the part there begins, and 0 where there is none
+--   part_order_of ucs2 cs o  == whether they are the parts of one message, and their reference
 --   places_left, starts_left == the two tables, as part_order leaves them
 use Rattle.std.specs.Prelude.{ℕ, Bool, cond, List, [], ◌∷◌, map, ltb, length, replicate}
 use Rattle.words.specs.declared.Refusal.TheVariants.{WrongLength, WrongHeader, WrongPages}

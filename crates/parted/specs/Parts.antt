@@ -2,17 +2,17 @@
 -- "Parts are filled as W1's pages are"; "a text that fits alone has no header"; "over 255 parts is 5".
 -- Own rule: none. Cited by the definitions of the calls. Assumes nothing.
 -- A text is UCS2 where ucs2 is true, else 7-bit:
---   most_parts               == the most parts of a message
---   room_behind ucs2 h       == how much of a text a short message holds behind a header of h octets: units of UCS2, or septets
---   parts_holding ucs2 n     == how many parts n units or septets take: one where they fit alone, else the fewest that hold them behind a header of 6 octets
---   parts_of ucs2 units      == how many parts a text takes
---   is_marked total          == each part of a message of so many has a header
---   mark_size total          == how many octets that header takes
+--   most_parts                    == the most parts of a message
+--   room_behind ucs2 h            == how much of a text a short message holds behind a header of h octets: units of UCS2, or septets
+--   parts_holding ucs2 n          == how many parts n units or septets take: one where they fit alone, else the fewest that hold them behind a header of 6 octets
+--   parts_of ucs2 units           == how many parts a text takes
+--   is_marked total               == each part of a message of so many has a header
+--   mark_size total               == how many octets that header takes
 --   part_header reference total k == the header of part k, from 1: none of a lone one
---   part_content ucs2 total s k == what part k holds of the content s
---   headed_octets ucs2 h s   == the octets of a short message with the header h in front of the content s
---   headed_count ucs2 h s    == the count that travels with them: septets, or the octets of UCS2
---   part_octets, part_count   == those of part k of a message of so many parts with that content
+--   part_content ucs2 total s k   == what part k holds of the content s
+--   headed_octets ucs2 h s        == the octets of a short message with the header h in front of the content s
+--   headed_count ucs2 h s         == the count that travels with them: septets, or the octets of UCS2
+--   part_octets, part_count       == those of part k of a message of so many parts with that content
 use Rattle.std.specs.Prelude.{ℕ, ◌+◌, ◌-◌, ◌/◌, Bool, not, cond, List, [], ◌++◌, leb, eqb, length}
 use Rattle.words.specs.declared.Service.TheVariants.{ShortMessage}
 use Rattle.words.specs.Sizes.{most_septets, most_octets}

@@ -3,16 +3,16 @@
 -- judged behind the header, after 12". "A mark beside the octets says that a header stands in front; the count covers it."
 -- Own rule: the numbers of a part are answered as they stand. Cited by read_part, and by the definitions of joining. Assumes nothing.
 -- A message is UCS2 where ucs2 is true, else 7-bit:
---   count_fits ucs2 octets count == so many octets are what the count asks, and no more than a short message has
---   head_size marked o           == how many octets the header in front of o takes, none without the mark
---   wrong_head ucs2 count o      == no header stands in front of o, or it takes more septets than the count
---   odd_behind ucs2 h o          == behind the header of h octets the octets of UCS2 are odd
+--   count_fits ucs2 octets count  == so many octets are what the count asks, and no more than a short message has
+--   head_size marked o            == how many octets the header in front of o takes, none without the mark
+--   wrong_head ucs2 count o       == no header stands in front of o, or it takes more septets than the count
+--   odd_behind ucs2 h o           == behind the header of h octets the octets of UCS2 are odd
 --   content_behind ucs2 h count o == what stands behind the header: units, or septets
---   shown_as ucs2 s              == the text of a content
---   text_behind ucs2 h count o   == the text behind the header
---   marked_numbers marked o      == the numbers of the part, if there are any
---   behind_rules, part_read_rules  == what refuses octets whose reading is known; what refuses them by their coding octet too, where the lent buffer has that much room
---   part_reads, part_read_leaves   == what read_part answers, and what it leaves in the lent buffer
+--   shown_as ucs2 s               == the text of a content
+--   text_behind ucs2 h count o    == the text behind the header
+--   marked_numbers marked o       == the numbers of the part, if there are any
+--   behind_rules, part_read_rules == what refuses octets whose reading is known; what refuses them by their coding octet too, where the lent buffer has that much room
+--   part_reads, part_read_leaves  == what read_part answers, and what it leaves in the lent buffer
 use Rattle.std.specs.Prelude.{ℕ, ◌-◌, ◌%◌, Bool, false, not, cond, ◌&&◌, ◌||◌, List, [], ◌∷◌, ◌++◌, ltb, leb, eqb, length, drop}
 use Rattle.words.specs.declared.Service.TheVariants.{ShortMessage}
 use Rattle.words.specs.declared.Refusal.TheVariants.{WrongLength, WrongHeader, NoRoom}

@@ -1,11 +1,11 @@
 -- Document 01, "Refusal numbers and their order": what the calls with parts report. "A refusal reports 0 written, count 0 and data coding octet 0, and any
 -- reading in its answer holds the unmentioned values", and "a position is 0 unless the request gives one".
 -- Own rule: a refusal has no mark, no reference and no numbers. Assumes nothing.
---   counted_number, counted_position, counted_parts == what count_parts reports
+--   counted_number, counted_position, counted_parts                                              == what count_parts reports
 --   part_number, part_position, part_written, part_travels, part_marked, part_coding, part_parts == what write_part reports
---   parts_number, parts_position, parts_written, parts_marked, parts_coding, parts_parts == what write_parts reports
---   read_number, read_position, read_written, read_reading, read_numbers == what read_part reports
---   join_number, join_position, join_written, join_reading, join_reference, join_parts == what join_parts reports
+--   parts_number, parts_position, parts_written, parts_marked, parts_coding, parts_parts         == what write_parts reports
+--   read_number, read_position, read_written, read_reading, read_numbers                         == what read_part reports
+--   join_number, join_position, join_written, join_reading, join_reference, join_parts           == what join_parts reports
 use Rattle.std.specs.Prelude.{ℕ, Bool, false}
 use Rattle.words.specs.Refusals.{number_of, position_of}
 use Rattle.coding.specs.declared.Reading.{Reading}

@@ -2,12 +2,12 @@
 -- that the message lacks, 7), writing all parts end to end (then 7 for either lent buffer). "over 255 parts is 5".
 -- Own rule: the second buffer takes for each part its count and how many octets it has, one after the other. Cited by count_parts, write_part and
 -- write_parts. Assumes nothing.
---   reading_parts, reading_content == how many parts a text takes that is written as the reading r, and what is laid into them
---   octets_as, count_as            == the octets and the count of part k of it
---   all_octets, all_sizes          == the octets of n parts from part k on, end to end; for each of them the count, and how many octets it has
---   octets_of_all, sizes_of_all      == those of all parts
---   size_rules, count_rules, count_answers == what refuses to count the parts of a text, and what count_parts answers
---   part_rules, part_answers, part_leaves  == the same of write_part, and what it leaves in the lent buffer
+--   reading_parts, reading_content                   == how many parts a text takes that is written as the reading r, and what is laid into them
+--   octets_as, count_as                              == the octets and the count of part k of it
+--   all_octets, all_sizes                            == the octets of n parts from part k on, end to end; for each of them the count, and how many octets it has
+--   octets_of_all, sizes_of_all                      == those of all parts
+--   size_rules, count_rules, count_answers           == what refuses to count the parts of a text, and what count_parts answers
+--   part_rules, part_answers, part_leaves            == the same of write_part, and what it leaves in the lent buffer
 --   all_rules, all_answers, all_leaves, sizes_leaves == the same of write_parts, and what it leaves in the two lent buffers
 use Rattle.std.specs.Prelude.{ℕ, zero, suc, Bool, ◌||◌, List, [], ◌∷◌, ◌++◌, ltb, length}
 use Rattle.words.specs.declared.Service.TheVariants.{ShortMessage}

@@ -1,10 +1,10 @@
 -- How a program puts words, octets and units into a lent buffer: at a place, as far as there is room.
 -- Own rule: all of it; no standard says how a program prints. Cited by every call of this crate. Assumes nothing.
---   placed out at xs  == out with xs laid over it from the place at on, as far as it reaches
---   end_of room at n   == where n octets end that are put at a place of a buffer of so much room
---   octet_digits s     == the octets s, two hexadecimal digits each
---   unit_digits s      == the units s, four each: those of the higher octet, then those of the lower
---   distance z        == how far a number is from zero
+--   placed out at xs == out with xs laid over it from the place at on, as far as it reaches
+--   end_of room at n == where n octets end that are put at a place of a buffer of so much room
+--   octet_digits s   == the octets s, two hexadecimal digits each
+--   unit_digits s    == the units s, four each: those of the higher octet, then those of the lower
+--   distance z       == how far a number is from zero
 use Rattle.std.specs.Prelude.{ℕ, zero, suc, ◌+◌, ◌-◌, ◌/◌, ◌%◌, min, List, [], ◌∷◌, ℤ, nat_abs}
 use Rattle.typed.specs.Spelling.{digit_for}
 

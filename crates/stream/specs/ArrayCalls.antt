@@ -2,17 +2,17 @@
 -- a text's septets in an array of their own, longer than any text.
 -- Own rule: of an array's septet the low seven bits are packed. Cited by packing::pack_text, packing::pack_short, packing::pack_page,
 -- packing::unpack_all, closing::adds_cr and closing::text_length. Assumes nothing.
---   low_bits s                  == the low seven bits of each of s
---   array_rules service s n room == what refuses to pack the first n septets of the array s into a buffer of that room
---   array_answers, array_leaves  == what pack_text answers, and what it leaves in the buffer; pack_short of a short message and all septets
---   page_rules p room           == what refuses to pack the page p into a buffer of that room
---   page_answers, page_leaves    == what pack_page answers, and what it leaves in the buffer
---   held_count service octets count == how many septets so many octets hold
---   all_septets service count o == all septets that the octets o hold, the closing ones that unpack drops too
+--   low_bits s                         == the low seven bits of each of s
+--   array_rules service s n room       == what refuses to pack the first n septets of the array s into a buffer of that room
+--   array_answers, array_leaves        == what pack_text answers, and what it leaves in the buffer; pack_short of a short message and all septets
+--   page_rules p room                  == what refuses to pack the page p into a buffer of that room
+--   page_answers, page_leaves          == what pack_page answers, and what it leaves in the buffer
+--   held_count service octets count    == how many septets so many octets hold
+--   all_septets service count o        == all septets that the octets o hold, the closing ones that unpack drops too
 --   all_rules, all_answers, all_leaves == what unpack_all refuses, answers and leaves in the buffer
---   adds_under service s        == whether the service adds a CR to the septets s
---   closes_groups s             == whether s is whole groups of eight and ends in CR
---   kept_count service s        == how many of all septets s that octets hold are left of a text
+--   adds_under service s               == whether the service adds a CR to the septets s
+--   closes_groups s                    == whether s is whole groups of eight and ends in CR
+--   kept_count service s               == how many of all septets s that octets hold are left of a text
 use Rattle.std.specs.Prelude.{ℕ, ◌-◌, ◌%◌, Bool, true, false, not, ◌&&◌, List, [], ◌∷◌, ◌++◌, length, take, ltb, eqb}
 use Rattle.words.specs.declared.Service.{Service}
 use Rattle.words.specs.declared.Service.TheVariants.{ShortMessage, Broadcast, Ussd, OldPage}

@@ -2,7 +2,7 @@
 -- Own rule: none. Cited by the definition of a group of eight septets, and by private functions. Assumes nothing.
 --   value b s    == the number whose digits in base b are s
 --   digits b n v == the first n digits of v in base b
---   low_of w s    == the low w bits of each of s
+--   low_of w s   == the low w bits of each of s
 use Rattle.std.specs.Prelude.{ℕ, zero, suc, ◌+◌, ◌*◌, ◌/◌, ◌%◌, ◌^◌, List, [], ◌∷◌, map}
 
 unfoldable pub value : ℕ → List ℕ → ℕ

@@ -1,8 +1,8 @@
 -- Document 01, "Packing": eight septets take seven octets, here as one number of 64 bits.
 -- Own rule: of an octet that holds a septet the low seven bits count. Cited by groups::squeeze, groups::stretch
 -- and groups::left_over. Assumes nothing.
---   together x == the number of 56 bits whose septets are the low seven bits of the octets of x, in their order
---   apart v    == the number whose octets are the septets of the low 56 bits of v, in their order
+--   together x       == the number of 56 bits whose septets are the low seven bits of the octets of x, in their order
+--   apart v          == the number whose octets are the septets of the low 56 bits of v, in their order
 --   left_over v n cr == the number of the first septets of v that n septets leave over whole groups of eight, with a CR after them where cr says so
 use Rattle.std.specs.Prelude.{ℕ, ◌%◌, Bool, take}
 use Rattle.stream.specs.Digits.{value, digits, low_of}

@@ -1,6 +1,6 @@
 -- Document 01, "Packing": the 93 septets of a broadcast page, in 82 octets.
 -- Own rule: none. Cited by packing::pack and packing::unpack. Assumes nothing.
---   page s        == the 93 septets of a page with the text s
+--   page s         == the 93 septets of a page with the text s
 --   page_octets s  == the octets of that page; its last five bits are spare
 --   page_septets o == the text of the page whose octets are o: every closing CR is dropped
 use Rattle.std.specs.Prelude.{ℕ, List, replicate}

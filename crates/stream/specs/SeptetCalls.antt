@@ -1,12 +1,12 @@
 -- Document 01, "Packing" and "Refusal numbers and their order": packing alone (8 of an old page, 9, 5, 7) and unpacking alone (4, 7).
 -- Own rule: none. Cited by packing::pack and packing::unpack. Assumes nothing.
---   octets_of service s             == the octets of the septets s
---   travels service n              == the length count where n would travel with a short message
---   count_of service s              == the length count that travels with the septets s
---   pack_rules service s room       == what refuses to pack s into a buffer of that room
---   pack_answers, pack_leaves        == what pack answers, and what it leaves in the buffer
---   septets_fit service octets count == whether so many octets fit the service and the count
---   septets_of service count o      == the septets that the octets o hold
+--   octets_of service s                         == the octets of the septets s
+--   travels service n                           == the length count where n would travel with a short message
+--   count_of service s                          == the length count that travels with the septets s
+--   pack_rules service s room                   == what refuses to pack s into a buffer of that room
+--   pack_answers, pack_leaves                   == what pack answers, and what it leaves in the buffer
+--   septets_fit service octets count            == whether so many octets fit the service and the count
+--   septets_of service count o                  == the septets that the octets o hold
 --   unpack_rules, unpack_answers, unpack_leaves == the same of unpack
 use Rattle.std.specs.Prelude.{ℕ, Bool, not, ◌&&◌, List, [], ◌∷◌, ◌++◌, length, ltb, leb, eqb}
 use Rattle.words.specs.declared.Service.{Service}

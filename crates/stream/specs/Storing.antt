@@ -1,6 +1,6 @@
 -- Document 01, "Refusal numbers and their order": the last of all refusals, 7, by itself: what is stored in a lent buffer, where only 7 can refuse.
 -- Own rule: none. Cited by to_units::store, and by the functions that store into a lent buffer. Assumes nothing.
---   given_rules xs room    == what refuses to store xs in a buffer of that room
+--   given_rules xs room                        == what refuses to store xs in a buffer of that room
 --   given_answers xs room, given_leaves xs out == what storing xs answers, and leaves in the buffer
 use Rattle.std.specs.Prelude.{ℕ, List, [], ◌∷◌, length, ltb}
 use Rattle.words.specs.declared.Filled.{Filled}

@@ -2,10 +2,10 @@
 -- Bit i of septet k is bit 7k + i of the stream; octet j takes bits 8j to 8j + 7, lowest first; spare bits are 0.
 -- Own rule: none. Cited by the definitions of the three packings and of the old page. Assumes nothing.
 --   stream_bit w s m == bit m of the stream whose pieces of w bits are s, and 0 past the last piece
---   cut b w m n     == n pieces of w bits each, from bit m of the stream b on
+--   cut b w m n      == n pieces of w bits each, from bit m of the stream b on
 --   octets_for n     == how many octets n septets take
---   packed s        == the octets of the septets s
---   unpacked n o    == the first n septets of the stream that the octets o hold
+--   packed s         == the octets of the septets s
+--   unpacked n o     == the first n septets of the stream that the octets o hold
 use Rattle.std.specs.Prelude.{ℕ, zero, suc, ◌+◌, ◌*◌, ◌/◌, ◌%◌, List, [], ◌∷◌, length, get_or}
 use Rattle.lists.specs.Bits.{bit_of, gather}
 

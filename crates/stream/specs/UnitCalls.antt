@@ -1,12 +1,12 @@
 -- Document 01, "Packing" and "Refusal numbers and their order": UCS2 units to octets (8 of an old page, 5, 7) and back (4, 7).
 -- Own rule: an old page holds no UCS2, so that any octets under it are 4. The count of a short message is its octets.
 -- Cited by from_units::units_to_octets and to_units::octets_to_units. Assumes nothing.
---   ucs2_octets_of service us        == the octets of the units us
+--   ucs2_octets_of service us                            == the octets of the units us
 --   to_octets_rules, to_octets_answers, to_octets_leaves == what units_to_octets refuses, answers and leaves in the buffer
---   unit_count_of service us         == the length count that travels with them
---   units_fit service octets count  == whether so many octets fit the service and the count
---   units_of service o              == the units that the octets o hold
---   to_units_rules, to_units_answers, to_units_leaves == the same of octets_to_units
+--   unit_count_of service us                             == the length count that travels with them
+--   units_fit service octets count                       == whether so many octets fit the service and the count
+--   units_of service o                                   == the units that the octets o hold
+--   to_units_rules, to_units_answers, to_units_leaves    == the same of octets_to_units
 use Rattle.std.specs.Prelude.{ℕ, ◌%◌, Bool, false, not, ◌&&◌, List, [], ◌∷◌, ◌++◌, length, ltb, leb, eqb}
 use Rattle.words.specs.declared.Service.{Service}
 use Rattle.words.specs.declared.Service.TheVariants.{ShortMessage, Broadcast, Ussd, OldPage}

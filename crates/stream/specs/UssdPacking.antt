@@ -1,14 +1,14 @@
 -- Document 01, "Packing" (TS 23.038 Release 9, 6.1.2.3.1): USSD adds a CR on packing and drops one on reading.
 -- Own rule: none. Cited by packing::pack and packing::unpack. Assumes nothing.
---   cr            == the septet of a carriage return, and the unit
+--   cr             == the septet of a carriage return, and the unit
 --   septets_in m   == how many septets m octets of USSD hold
---   last s        == the last septet of s, and 0 where there is none
+--   last s         == the last septet of s, and 0 where there is none
 --   adds_cr s      == whether a CR is added to the septets s before packing
 --   with_cr b s    == s with a CR after it where b is true
---   closed s      == the septets that are packed for s
+--   closed s       == the septets that are packed for s
 --   ussd_octets s  == the octets of s
 --   drops_cr m s   == whether the last of the septets s, read from m octets, is dropped
---   opened m s    == what is left of the septets s, read from m octets
+--   opened m s     == what is left of the septets s, read from m octets
 --   ussd_septets o == the septets that the octets o hold
 use Rattle.std.specs.Prelude.{ℕ, ◌-◌, ◌*◌, ◌/◌, ◌%◌, Bool, true, false, ◌&&◌, ◌||◌, List, [], ◌∷◌, ◌++◌, length, get_or, take, eqb, ltb}
 use Rattle.stream.specs.Stream.{packed, unpacked}

@@ -1,12 +1,12 @@
 -- How numbers are typed: octets and units in hexadecimal digits, other numbers in decimal ones (docs/CASES.md, "Values").
 -- Own rule: all of it; no standard says how a person types an octet. Cited by every call of this crate. Assumes nothing.
---   digit_of c        == the value of the digit c: its place among 0 to 9 and A to F, and 16 where it is none of them
---   digit_for v       == the digit whose value is v mod 16
---   number_in b s     == the number that the digits s are in base b, the highest first
---   numbers_in w n s  == the n numbers that s spells with w hexadecimal digits each
---   only_digits b s   == every octet of s is a digit of base b
+--   digit_of c                       == the value of the digit c: its place among 0 to 9 and A to F, and 16 where it is none of them
+--   digit_for v                      == the digit whose value is v mod 16
+--   number_in b s                    == the number that the digits s are in base b, the highest first
+--   numbers_in w n s                 == the n numbers that s spells with w hexadecimal digits each
+--   only_digits b s                  == every octet of s is a digit of base b
 --   elements_answers, elements_leave == what reading numbers of w digits answers, and leaves in the lent buffer
---   number_answers s  == what reading a decimal number answers
+--   number_answers s                 == what reading a decimal number answers
 use Rattle.std.specs.Prelude.{ℕ, zero, suc, ◌+◌, ◌*◌, ◌/◌, ◌%◌, Bool, not, cond, ◌&&◌, List, [], ◌∷◌, ◌++◌, leb, ltb, eqb, length, take, drop, get_or}
 use Rattle.lists.specs.Lists.{laid, first_place, numbers_from}
 use Rattle.typed.specs.declared.Elements.{Elements}

@@ -4,7 +4,7 @@
 --   shown_for n x      == in numbers, where n is the service's: the answer of a key x, the record after it, and the number that this record shows
 --   unnamed_meter m    == the refusal of a record with no service
 --   named_meter m      == the record that the numbers m name, if their service is one
---   under n none give == what give says of a record that is named, or none
+--   under n none give  == what give says of a record that is named, or none
 --   under_meter m give == a call: what give says of the record that is named, in numbers, or that refusal
 use Rattle.std.specs.Prelude.{ℕ, pos}
 use Rattle.words.specs.declared.Refusal.TheVariants.{Unwritable}

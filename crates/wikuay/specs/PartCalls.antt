@@ -2,7 +2,7 @@
 -- numbers.
 -- Own rule: a reading with a number that names nothing is refused 8 before all else, and so is a mark that is neither 0 nor 1; the buffers are then kept as
 -- they came. Cited by the exported calls. Assumes nothing.
---   under_mark mark none given == what a call gives for the mark with that number, or for none
+--   under_mark mark none given           == what a call gives for the mark with that number, or for none
 --   write_parts_keeps, write_parts_lists == the buffer of octets and that of sizes
 use Rattle.std.specs.Prelude.{ℕ, Bool, cond, List, leb, eqb}
 use Rattle.words.specs.declared.Refusal.TheVariants.{Unwritable}

@@ -1,8 +1,8 @@
 -- What is settled of one message before its text is seen: a text by itself (Settled.antt), or a broadcast page behind the letters of its language, whose
 -- coding octet alone can refuse it (8). The whole writer is this and writing together (proofs/Settling.antt, coded-writes).
 -- Own rule: none. Cited by code_message and write_coded. Assumes nothing.
---   lettered_by r octet       == what is settled of a page behind letters, by the coding octet that its reading r is written with
---   coded_as service r        == what the reading r settles of one message under the service
+--   lettered_by r octet        == what is settled of a page behind letters, by the coding octet that its reading r is written with
+--   coded_as service r         == what the reading r settles of one message under the service
 --   coded_writes, coded_leaves == what write_coded answers, and what it leaves in the lent buffer
 use Rattle.std.specs.Prelude.{ℕ, cond, List}
 use Rattle.words.specs.declared.Service.{Service}

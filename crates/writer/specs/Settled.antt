@@ -3,7 +3,7 @@
 -- Own rule: none. Cited by settle, settle_plain, write_settled and the methods of TextCoding. Assumes nothing.
 --   octet_in, ucs2_in              == the coding octet of what is settled, and whether it is UCS2
 --   held_settled, settled_by       == what is settled, by the coding octet that a reading is written with, and by the text that it holds
---   settled_as service r          == what the reading r settles under the service
+--   settled_as service r           == what the reading r settles under the service
 --   settled_writes, settled_leaves == what write_settled answers, and what it leaves in the lent buffer
 use Rattle.std.specs.Prelude.{ℕ, Bool, true, false, List}
 use Rattle.words.specs.declared.Service.{Service}
