@@ -1,2 +1,3 @@
 pub mod Outcomes
 pub mod Printing
+pub mod Laid
