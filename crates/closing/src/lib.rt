@@ -16,17 +16,9 @@ use words::Service;
 pub fn page_of(septets: &[u8]) -> [u8; 93]
     ensures answer { result ≡ page (take 93 septets.now) }
 {
-    let n = if septets.len() < 93 {
-        septets.len()
-    } else {
-        93
-    };
+    let n = septets.len().min(93);
     let mut page = [13u8; 93];
-    let mut i: usize = 0;
-    while i < n {
-        page[i] = septets[i];
-        i += 1;
-    }
+    page[..n].copy_from_slice(&septets[..n]);
     page
 }
 
@@ -46,17 +38,11 @@ pub fn adds_cr(service: Service, septets: &[u8]) -> bool
 fn ussd_adds(septets: &[u8]) -> bool
     ensures { result ≡ adds_cr (low_of 7 septets.now) }
 {
-    let n = septets.len();
-    let over = n % 8;
-    if over == 7 {
-        return true;
+    let over = septets.len() % 8;
+    match septets.last() {
+        Some(last) => over == 7 || over == 0 && last & 0x7f == 13,
+        None => false,
     }
-    if 0 < n {
-        if over == 0 {
-            return septets[n - 1] & 0x7f == 13;
-        }
-    }
-    false
 }
 
 // The length count that travels with so many septets, or octets of UCS2.
@@ -89,20 +75,13 @@ pub fn fits(service: Service, octets: usize, count: usize) -> bool
 pub fn text_length(service: Service, septets: &[u8]) -> usize
     ensures answer { result ≡ kept_count service septets.now }
 {
-    let n = septets.len();
     match service {
         Service::ShortMessage => septets.len(),
         Service::Broadcast => kept(septets, 13),
-        Service::Ussd => {
-            if n % 8 == 0 {
-                if 0 < n {
-                    if septets[n - 1] == 13 {
-                        return n - 1;
-                    }
-                }
-            }
-            n
-        }
+        Service::Ussd => match septets.split_last() {
+            Some((last, text)) if septets.len() % 8 == 0 && *last == 13 => text.len(),
+            _ => septets.len(),
+        },
         Service::OldPage => kept(septets, 0),
     }
 }
@@ -111,12 +90,8 @@ pub fn text_length(service: Service, septets: &[u8]) -> usize
 fn kept(septets: &[u8], filling: u8) -> usize
     ensures { result ≡ length (without_closing filling septets.now) }
 {
-    let mut n = septets.len();
-    while 0 < n {
-        if septets[n - 1] != filling {
-            return n;
-        }
-        n -= 1;
+    match septets.iter().rposition(|septet| *septet != filling) {
+        Some(last) => last + 1,
+        None => 0,
     }
-    n
 }

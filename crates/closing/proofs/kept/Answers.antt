@@ -1,19 +1,11 @@
--- The septets from n on are filling, so that the first n decide what is left.
-use Rattle.lists.proofs.Closing.{filled-end, filled-down, filled-here, filled-whole}
-use borrow.Author.Rules.{rules}
+-- All behind the last septet that is no filling is filling.
+use mathlib.Core.Path.{sym}
+use Rattle.std.proofs.Common.{rules}
+use Rattle.lists.proofs.Closing.{closing_none, closing_last}
 use Rattle.closing.proofs.kept.Goals as goal
 
-pub loop-n-init : goal.loop-n-init
-loop-n-init c = (search rules, filled-end c.args.filling c.args.septets.now)
+pub returns-in-Some : goal.returns-in-Some
+returns-in-Some c = sym (closing_last c.args.filling c.args.septets.now c.in-Some.last (search rules) (search rules) (search rules))
 
-pub returns-then-septets-n : goal.returns-then-septets-n
-returns-then-septets-n c = let a = c.args in
-    filled-here a.filling a.septets.now c.loop-n.n c.loop-n.invariant.1 (search rules) c.loop-n.invariant.0 c.if-septets-n.true
-
-pub loop-n-preserved : goal.loop-n-preserved
-loop-n-preserved c = let a = c.args in
-    (search rules, filled-down a.filling a.septets.now c.loop-n.n c.loop-n.invariant.1 (search rules) c.loop-n.invariant.0 c.if-septets-n.false)
-
-pub returns : goal.returns
-returns c = let a = c.args in
-    filled-whole a.filling a.septets.now c.loop-n.n c.loop-n.invariant.1 (search rules)
+pub returns-in-None : goal.returns-in-None
+returns-in-None c = sym (closing_none c.args.filling c.args.septets.now (search rules))

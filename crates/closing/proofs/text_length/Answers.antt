@@ -1,43 +1,36 @@
 -- By the service that is told; under USSD the tests are those of a CR that closes whole groups, one after the other.
-use mathlib.Core.Path.{sym, ◌∙◌}
-use mathlib.Core.List.{List}
-use Prim.Native.Nat.{ℕ}
+use mathlib.Core.Path.{◌≡◌, sym, ap, ◌∙◌}
+use mathlib.Core.List.{List, [], ◌∷◌, ◌++◌}
+use Prim.Native.Nat.{ℕ, ◌+◌, ◌-◌, ◌%◌}
+use native.Mathlib.Omega.{arith}
 use borrow.Author.Tests.{eq-eqb, ne_eqb}
+use lib.Dec.{eqb}
+use lib.ListN.{length}
+use lib.Seq.{get_or_at}
 use Rattle.stream.specs.UssdPacking.{last}
-use Rattle.stream.proofs.Arrays.{closes-eight, closes-broken, closes-none, kept-closed, kept-open}
+use Rattle.stream.specs.ArrayCalls.{closes_groups}
+use Rattle.stream.proofs.Arrays.{closes-eight, closes-broken, kept-closed, kept-open}
 use Rattle.closing.proofs.text_length.Goals as goal
 
-pub returns-then-septets-n-eq13 : goal.returns-then-septets-n-eq13
+-- whole groups close in the last septet that is told
+closes : (s text : List ℕ) (x : ℕ) → (s ≡ text ++ x ∷ []) × (length text + 1 ≡ length s) → length s % 8 ≡ 0 → closes_groups s ≡ eqb x 13
 unfolding last
-returns-then-septets-n-eq13 c = record {
-  answer = let s : List ℕ = c.args.septets.now in
-      rw c.in-Ussd.is (sym (kept-closed s (closes-eight s c.if-n-gt0.true c.if-n-eq0.true ∙ eq-eqb _ _ c.if-septets-n-eq13.true)));
-}
+closes s text x e whole =
+    closes-eight s (omega arith) whole
+    ∙ ap (λ (y : ℕ). eqb y 13) (ap last e.0 ∙ get_or_at text x [] 0 (length (text ++ x ∷ []) - 1) (omega (arith, ap length e.0, e.1)))
 
-pub returns-in-ShortMessage : goal.returns-in-ShortMessage
-returns-in-ShortMessage c = record { answer = rw c.in-ShortMessage.is }
+pub returns-in-Some : goal.returns-in-Some
+returns-in-Some c =
+    let s : List ℕ = c.args.septets.now in
+    let e = c.in-Some.ensures.cases in
+    let less : length c.in-Some.text.now ≡ length s - 1 = omega (arith, e.1) in
+    record { answer = rw c.in-Ussd.is (less ∙ sym (kept-closed s (closes s c.in-Some.text.now c.in-Some.last.now e c.if-septets-eq0.true ∙ eq-eqb _ _ c.if-last-eq13.true))) }
 
-pub returns-in-Broadcast : goal.returns-in-Broadcast
-returns-in-Broadcast c = record { answer = rw c.in-Broadcast.is c.kept.ensures }
+pub returns-in_default : goal.returns-in_default
+returns-in_default c =
+    let s : List ℕ = c.args.septets.now in
+    record { answer = rw c.in-Ussd.is (sym (kept-open s (closes s c.in-Some.text.now c.in-Some.last.now c.in-Some.ensures.cases c.if-septets-eq0.true ∙ ne_eqb _ _ c.if-last-eq13.false))) }
 
-pub returns-else-septets-n-eq13 : goal.returns-else-septets-n-eq13
-unfolding last
-returns-else-septets-n-eq13 c = record {
-  answer = let s : List ℕ = c.args.septets.now in
-      rw c.in-Ussd.is (sym (kept-open s (closes-eight s c.if-n-gt0.true c.if-n-eq0.true ∙ ne_eqb _ _ c.if-septets-n-eq13.false)));
-}
-
-pub returns-else-n-gt0 : goal.returns-else-n-gt0
-returns-else-n-gt0 c = record {
-  answer = let s : List ℕ = c.args.septets.now in
-      rw c.in-Ussd.is (sym (kept-open s (closes-none s c.if-n-gt0.false)));
-}
-
-pub returns-else-n-eq0 : goal.returns-else-n-eq0
-returns-else-n-eq0 c = record {
-  answer = let s : List ℕ = c.args.septets.now in
-      rw c.in-Ussd.is (sym (kept-open s (closes-broken s c.if-n-eq0.false)));
-}
-
-pub returns-in-OldPage : goal.returns-in-OldPage
-returns-in-OldPage c = record { answer = rw c.in-OldPage.is c.kept-in-OldPage.ensures }
+pub returns-in_default-2 : goal.returns-in_default-2
+returns-in_default-2 c =
+    record { answer = rw c.in-Ussd.is (sym (kept-open c.args.septets.now (closes-broken c.args.septets.now c.if-septets-eq0.false))) }
