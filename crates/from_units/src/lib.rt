@@ -40,12 +40,9 @@ fn put_units(units: &[u16], out: &mut [u8]) -> Filled
     if out.len() < 2 * n {
         return Filled::Refused(Refusal::NoRoom);
     }
-    let mut i: usize = 0;
-    while i < n {
-        let unit = units[i];
+    for (i, &unit) in units.iter().enumerate() {
         out[2 * i] = (unit >> 8) as u8;
         out[2 * i + 1] = (unit & 0xff) as u8;
-        i += 1;
     }
     Filled::Done(2 * n)
 }
@@ -68,11 +65,7 @@ fn lay(units: &[u16]) -> [u16; 41]
     ensures { result ≡ unit_page units.now }
 {
     let mut page = [13u16; 41];
-    let mut i: usize = 0;
-    while i < units.len() {
-        page[i] = units[i];
-        i += 1;
-    }
+    page[..units.len()].copy_from_slice(units);
     page
 }
 
@@ -90,8 +83,7 @@ fn put_page(units: &[u16], out: &mut [u8]) -> Filled
 pub fn page_octets(units: &[u16]) -> [u8; 82]
     ensures answer { result ≡ unit_octets (unit_page (take 41 units.now)) }
 {
-    let n = if units.len() < 41 { units.len() } else { 41 };
-    let page = lay(&units[..n]);
+    let page = lay(&units[..units.len().min(41)]);
     let mut octets = [0u8; 82];
     put_units(&page, &mut octets);
     octets

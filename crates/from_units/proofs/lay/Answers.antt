@@ -1,10 +1,14 @@
--- The units passed are laid over the front of the 41 units 000D.
-use lib.ListN.{drop_of_length-le}
-use Rattle.lists.proofs.Laid.{lay-end}
+-- The units are laid over the front of the 41 units 000D.
+use mathlib.Core.Path.{refl, ap, ◌∙◌}
+use mathlib.Core.List.{List, ◌++◌}
+use Prim.Native.Nat.{ℕ}
+use lib.ListN.{length, drop, replicate}
+use Rattle.lists.proofs.Laid.{laid-copy}
 use Rattle.stream.specs.Ucs2.{unit_page}
-use borrow.Author.Rules.{rules}
 use Rattle.from_units.proofs.lay.Goals as goal
 
 pub returns : goal.returns
 unfolding unit_page
-returns c = lay-end c.loop-i.invariant.1 (drop_of_length-le c.args.units.now {i = c.loop-i.i} (search rules))
+returns c =
+    let us : List ℕ = c.args.units.now in
+    ap (λ (l : List ℕ). l ++ drop (length us) (replicate 41 13)) c.copy_from_slice.ensures.after ∙ laid-copy us (replicate 41 13) (length us) refl

@@ -1,39 +1,38 @@
 -- The octets of the units passed are laid over the front of out, two a turn.
-use lib.ListN.{length, get_or, drop, set, drop_of_length-le}
-use Prim.Native.Nat.{ℕ, ◌≤◌, ◌+◌, ◌*◌, ◌/◌, ◌%◌}
 use mathlib.Core.Path.{◌≡◌, sym, ap}
 use mathlib.Core.List.{List}
+use Prim.Native.Nat.{ℕ, ◌≤◌, ◌<◌, ◌+◌, ◌*◌, ◌/◌}
 use native.Mathlib.Omega.{arith}
-use lib.Bits.{and_mask}
+use lib.Bits.{bit_and, and_mask}
+use lib.ListN.{length, get_or, drop, set, drop_of_length-le}
 use Rattle.lists.proofs.Laid.{Laying, lay-left, lay-one, lay-moved, lay-end}
 use Rattle.stream.specs.Ucs2.{unit_octets}
-use Rattle.stream.proofs.UnitOctets.{unit-octets-length, unit-octets-next}
 use Rattle.stream.proofs.Given.{given-short, given-done}
-use borrow.Author.Rules.{rules}
+use Rattle.stream.proofs.UnitOctets.{unit-octets-length, unit-octets-next}
 use Rattle.words.proofs.Clauses.{answered}
 use Rattle.from_units.proofs.put_units.Goals as goal
 
 pub returns-then-out-n : goal.returns-then-out-n
-returns-then-out-n c = let a = c.args in
-    answered
-    (given-short (unit_octets a.units.now) a.out.now (omega (arith, unit-octets-length a.units.now)))
+returns-then-out-n c =
+    let us : List ℕ = c.args.units.now in
+    answered (given-short (unit_octets us) c.args.out.now (omega (arith, unit-octets-length us)))
+
+-- the octets of unit i are stored
+unit-stored : (us start out : List ℕ) (i : ℕ) → length (unit_octets us) ≤ length start → i < length us → Laying start (unit_octets us) (unit_octets (drop i us)) (2 * i) out
+    → let u = get_or us i 0 in Laying start (unit_octets us) (unit_octets (drop (i + 1) us)) (2 * (i + 1)) (set (set out (2 * i) (u / 256)) (2 * i + 1) (bit_and u 255))
+unit-stored us start out i fits h l =
+    let u : ℕ = get_or us i 0 in
+    let next : 2 * (i + 1) ≡ 2 * i + 1 + 1 = omega arith in
+    lay-moved (lay-one (lay-one (lay-left l (unit-octets-next us i h)) fits) fits) next (ap (set (set out (2 * i) (u / 256)) (2 * i + 1)) (and_mask u 8))
 
 pub loop-i-preserved : goal.loop-i-preserved
-loop-i-preserved c = let a = c.args in
-    let us : List ℕ = a.units.now in
-    let i : ℕ = c.loop-i.i in
-    let u : ℕ = get_or us i 0 in
-    let fits : length (unit_octets us) ≤ length a.out.now = omega (arith, unit-octets-length us) in
-    let next : 2 * (i + 1) ≡ 2 * i + 1 + 1 = omega arith in
-    let stored : Laying a.out.now (unit_octets us) (unit_octets (drop (i + 1) us)) (2 * i + 1 + 1) (set (set c.loop-i.out (2 * i) (u / 256)) (2 * i + 1) (u % 256)) =
-    lay-one (lay-one (lay-left c.loop-i.invariant.1 (unit-octets-next us i (search rules))) fits) fits in
-    (search rules, lay-moved stored next (ap (set (set c.loop-i.out (2 * i) (u / 256)) (2 * i + 1)) (and_mask u 8)))
+loop-i-preserved c =
+    let us : List ℕ = c.args.units.now in
+    unit-stored us c.args.out.now c.loop-i.out c.loop-i.i (omega (arith, unit-octets-length us)) c.loop-i-test.true c.loop-i.invariant
 
 pub returns : goal.returns
 unfolding unit_octets
-returns c = let a = c.args in
-    let us : List ℕ = a.units.now in
+returns c =
+    let us : List ℕ = c.args.units.now in
     let size : length (unit_octets us) ≡ 2 * length us = unit-octets-length us in
-    answered
-    (given-done (unit_octets us) a.out.now (sym size) (omega arith)
-    (lay-end c.loop-i.invariant.1 (ap unit_octets (drop_of_length-le us {i = c.loop-i.i} (omega arith)))))
+    answered (given-done (unit_octets us) c.args.out.now (sym size) (omega arith) (lay-end c.loop-i.invariant (ap unit_octets (drop_of_length-le us {i = c.loop-i.i} (omega arith)))))

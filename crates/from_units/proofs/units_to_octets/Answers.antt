@@ -10,9 +10,6 @@ use Rattle.words.specs.Sizes.{most_units, is_old_page}
 use Rattle.words.specs.Judging.{verdict}
 use Rattle.stream.specs.UnitCalls.{to_octets_rules, to_octets_answers, to_octets_leaves}
 use Rattle.stream.proofs.Calls.{to-octets-passed}
-use Rattle.from_units.proofs.units_to_octets.Lts as lts
-use Rattle.from_units.proofs.units_to_octets.Reads as reads
-use Rattle.from_units.proofs.units_to_octets.Tie as tie
 use Rattle.words.proofs.Clauses.{answered}
 use Rattle.from_units.proofs.units_to_octets.Goals as goal
 
@@ -23,16 +20,13 @@ returns-then-is_old_page c = let a = c.args in
     answered
     (simp old (refl, refl))
 
--- past the first rule
-new : (c : lts.Else1 tie.the-claims reads.Pre reads.Post tie.handed_clauses) → is_old_page c.args.service ≡ false
-new c = sym c.is_old_page.ensures.answer ∙ c.if-is_old_page.false
-
 pub returns-then-most_units-units : goal.returns-then-most_units-units
 unfolding to_octets_rules to_octets_answers to_octets_leaves verdict
 returns-then-most_units-units c = let a = c.args in
+    let new : is_old_page a.service ≡ false = sym c.is_old_page.ensures.answer ∙ c.if-is_old_page.false in
     let over : most_units a.service < length a.units.now = omega (arith, c.most_units.ensures.answer) in
     answered
-    (simp (new c.before.before.before, lt-ltb _ _ over) (refl, refl))
+    (simp (new, lt-ltb _ _ over) (refl, refl))
 
 pub returns-in-ShortMessage : goal.returns-in-ShortMessage
 returns-in-ShortMessage c = let a = c.args in
