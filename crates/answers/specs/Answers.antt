@@ -8,21 +8,15 @@
 --                                                                                 reading x, of a page behind letters, of a refusal
 --   told_answer a                                                              == what C gets of that
 --   refused_answer, read_refused_answer                                        == the same of a refusal by itself
-use Rattle.std.specs.Prelude.{ℕ, Bool}
+use Rattle.std.specs.Prelude.{ℕ, Bool, Result, Ok, Err}
 use Rattle.words.specs.declared.Refusal.{Refusal}
-use Rattle.words.specs.declared.Filled.{Filled}
-use Rattle.words.specs.declared.Filled.TheVariants as filled
 use Rattle.words.specs.Refusals.{number_of, position_of}
 use Rattle.words.specs.Answers.{filled_number, filled_position, filled_written}
 use Rattle.coding.specs.declared.Reading.{Reading}
-use Rattle.coding.specs.declared.OctetRead.{OctetRead}
-use Rattle.coding.specs.declared.OctetWritten.{OctetWritten}
 use Rattle.coding.specs.declared.Held.{Held}
-use Rattle.coding.specs.declared.Held.TheVariants as held
 use Rattle.coding.specs.Readings.{unmentioned, with_letters}
 use Rattle.coding.specs.LanguageLetters.{lettered_in}
 use Rattle.lettered.specs.declared.LetteredRead.{LetteredRead}
-use Rattle.lettered.specs.declared.LetteredRead.TheVariants as page
 use Rattle.coding.specs.Answers.{written_number, written_position, written_octet, held_number, held_position, read_number as octet_read_number, read_position as octet_read_position, read_reading as octet_read_reading}
 use Rattle.stream.specs.declared.Packed.{Packed}
 use Rattle.stream.specs.Answers.{packed_number, packed_position, packed_written, packed_count}
@@ -35,6 +29,8 @@ use Rattle.answers.specs.declared.MessageTold.{MessageTold}
 use Rattle.names.specs.declared.JoinedNumbers.{JoinedNumbers}
 use Rattle.names.specs.Names.{numbers_of}
 use Rattle.names.specs.Joined.{joined_numbers, parted_numbers}
+use Rattle.coding.specs.declared.Held.TheVariants as held
+use Rattle.lettered.specs.Successes.{ok_lettered_read}
 
 abbrev pub done_answer : ℕ → ℕ → ℕ → Answer
 done_answer count written coding = record { refusal = 0; count = count; position = 0; written = written; coding = coding }
@@ -42,16 +38,16 @@ done_answer count written coding = record { refusal = 0; count = count; position
 abbrev pub refused_answer : Refusal → Answer
 refused_answer q = record { refusal = number_of q; count = 0; position = position_of q; written = 0; coding = 0 }
 
-abbrev pub filled_answer : Filled → Answer
+abbrev pub filled_answer : Result ℕ Refusal → Answer
 filled_answer a = record { refusal = filled_number a; count = 0; position = filled_position a; written = filled_written a; coding = 0 }
 
-abbrev pub packed_answer : Packed → Answer
+abbrev pub packed_answer : Result Packed Refusal → Answer
 packed_answer a = record { refusal = packed_number a; count = packed_count a; position = packed_position a; written = packed_written a; coding = 0 }
 
-abbrev pub octet_written_answer : OctetWritten → Answer
+abbrev pub octet_written_answer : Result ℕ Refusal → Answer
 octet_written_answer a = record { refusal = written_number a; count = 0; position = written_position a; written = 0; coding = written_octet a }
 
-abbrev pub message_written_answer : MessageWritten → Answer
+abbrev pub message_written_answer : Result MessageWritten Refusal → Answer
 message_written_answer a = record { refusal = write_number a; count = write_count a; position = write_position a; written = write_written a; coding = write_coding a }
 
 abbrev pub read_answer : ℕ → ℕ → Reading → ReadAnswer
@@ -60,32 +56,32 @@ read_answer written holds r = record { refusal = 0; position = 0; written = writ
 abbrev pub read_refused_answer : Refusal → ReadAnswer
 read_refused_answer q = record { refusal = number_of q; position = position_of q; written = 0; holds = 0; reading = numbers_of unmentioned }
 
-abbrev pub octet_read_answer : OctetRead → ReadAnswer
+abbrev pub octet_read_answer : Result Reading Refusal → ReadAnswer
 octet_read_answer a = record { refusal = octet_read_number a; position = octet_read_position a; written = 0; holds = 0; reading = numbers_of (octet_read_reading a) }
 
 -- the number of the text that is held, and 0 of a refusal
-abbrev pub held_text : Held → ℕ
-held_text held.Septets = 1
-held_text held.Units = 2
-held_text (held.Refused q) = 0
+abbrev pub held_text : Result Held Refusal → ℕ
+held_text (Ok held.Septets) = 1
+held_text (Ok held.Units) = 2
+held_text (Err q) = 0
 
-abbrev pub held_answer : Held → ReadAnswer
+abbrev pub held_answer : Result Held Refusal → ReadAnswer
 held_answer a = record { refusal = held_number a; position = held_position a; written = 0; holds = held_text a; reading = numbers_of unmentioned }
 
-abbrev pub message_read_answer : MessageRead → ReadAnswer
+abbrev pub message_read_answer : Result MessageRead Refusal → ReadAnswer
 message_read_answer a = record { refusal = read_number a; position = read_position a; written = read_written a; holds = 0; reading = numbers_of (read_reading a) }
 
 -- what reading a message tells before C's answer is made of it
 abbrev pub refused_told : Refusal → MessageTold
 refused_told q = record { refusal = number_of q; position = position_of q; written = 0; reading = joined_numbers (numbers_of unmentioned) }
 
-abbrev pub shown_told : JoinedNumbers → Filled → MessageTold
-shown_told x (filled.Done units) = record { refusal = 0; position = 0; written = units; reading = x }
-shown_told x (filled.Refused q) = refused_told q
+abbrev pub shown_told : JoinedNumbers → Result ℕ Refusal → MessageTold
+shown_told x (Ok units) = record { refusal = 0; position = 0; written = units; reading = x }
+shown_told x (Err q) = refused_told q
 
-abbrev pub lettered_told : Bool → LetteredRead → MessageTold
-lettered_told ucs2 (page.Done units l) = record { refusal = 0; position = 0; written = units; reading = joined_numbers (numbers_of (with_letters l (lettered_in ucs2))) }
-lettered_told ucs2 (page.Refused q) = refused_told q
+abbrev pub lettered_told : Bool → Result LetteredRead Refusal → MessageTold
+lettered_told ucs2 (Ok m) = record { refusal = 0; position = 0; written = m.units; reading = joined_numbers (numbers_of (with_letters m.letters (lettered_in ucs2))) }
+lettered_told ucs2 (Err q) = refused_told q
 
 abbrev pub told_answer : MessageTold → ReadAnswer
 told_answer a = record { refusal = a.refusal; position = a.position; written = a.written; holds = 0; reading = parted_numbers a.reading }

@@ -4,10 +4,10 @@
 ghost use Rattle.std.specs.Prelude.{◌≡◌};
 ghost use Rattle.answers.specs.Answers.{done_answer, refused_answer, read_answer, read_refused_answer, filled_answer, octet_written_answer, octet_read_answer, held_answer, shown_told, lettered_told, refused_told, told_answer};
 
-use coding::{Held, OctetRead, OctetWritten, Reading};
+use coding::{Held, Reading};
 use lettered::LetteredRead;
 use names::{JoinedNumbers, ReadingNumbers};
-use words::{Filled, Refusal};
+use words::Refusal;
 
 // What a call answers that writes, or that fills a lent buffer.
 #[repr(C)]
@@ -89,43 +89,43 @@ pub fn read_refused(refusal: Refusal) -> ReadAnswer
 }
 
 // Of a call that fills a lent buffer.
-pub fn filled(answer: Filled) -> Answer
+pub fn filled(answer: Result<usize, Refusal>) -> Answer
     ensures answer { result ≡ filled_answer answer }
 {
     match answer {
-        Filled::Done(written) => done(0, written, 0),
-        Filled::Refused(refusal) => refused(refusal),
+        Ok(written) => done(0, written, 0),
+        Err(refusal) => refused(refusal),
     }
 }
 
 // Of writing a coding octet.
-pub fn octet_written(answer: OctetWritten) -> Answer
+pub fn octet_written(answer: Result<u8, Refusal>) -> Answer
     ensures answer { result ≡ octet_written_answer answer }
 {
     match answer {
-        OctetWritten::Done(coding) => done(0, 0, coding),
-        OctetWritten::Refused(refusal) => refused(refusal),
+        Ok(coding) => done(0, 0, coding),
+        Err(refusal) => refused(refusal),
     }
 }
 
 // Of reading a coding octet.
-pub fn octet_read(answer: OctetRead) -> ReadAnswer
+pub fn octet_read(answer: Result<Reading, Refusal>) -> ReadAnswer
     ensures answer { result ≡ octet_read_answer answer }
 {
     match answer {
-        OctetRead::Done(reading) => read(0, 0, reading),
-        OctetRead::Refused(refusal) => read_refused(refusal),
+        Ok(reading) => read(0, 0, reading),
+        Err(refusal) => read_refused(refusal),
     }
 }
 
 // Of which text a reading holds.
-pub fn held(answer: Held) -> ReadAnswer
+pub fn held(answer: Result<Held, Refusal>) -> ReadAnswer
     ensures answer { result ≡ held_answer answer }
 {
     match answer {
-        Held::Septets => read(0, 1, Reading::plain()),
-        Held::Units => read(0, 2, Reading::plain()),
-        Held::Refused(refusal) => read_refused(refusal),
+        Ok(Held::Septets) => read(0, 1, Reading::plain()),
+        Ok(Held::Units) => read(0, 2, Reading::plain()),
+        Err(refusal) => read_refused(refusal),
     }
 }
 
@@ -139,26 +139,26 @@ pub struct MessageTold {
 }
 
 // Of reading a text by itself, with its reading.
-pub fn shown(reading: JoinedNumbers, answer: Filled) -> MessageTold
+pub fn shown(reading: JoinedNumbers, answer: Result<usize, Refusal>) -> MessageTold
     ensures answer { result ≡ shown_told reading answer }
 {
     match answer {
-        Filled::Done(units) => MessageTold {
+        Ok(units) => MessageTold {
             refusal: 0,
             position: 0,
             written: units,
             reading: reading,
         },
-        Filled::Refused(refusal) => message_refused(refusal),
+        Err(refusal) => message_refused(refusal),
     }
 }
 
 // Of reading a page behind the letters of its language.
-pub fn lettered_shown(ucs2: bool, answer: LetteredRead) -> MessageTold
+pub fn lettered_shown(ucs2: bool, answer: Result<LetteredRead, Refusal>) -> MessageTold
     ensures answer { result ≡ lettered_told ucs2 answer }
 {
     match answer {
-        LetteredRead::Done { units, letters } => {
+        Ok(LetteredRead { units, letters }) => {
             let reading = names::join(names::lettered_numbers(ucs2, letters));
             MessageTold {
                 refusal: 0,
@@ -167,7 +167,7 @@ pub fn lettered_shown(ucs2: bool, answer: LetteredRead) -> MessageTold
                 reading: reading,
             }
         }
-        LetteredRead::Refused(refusal) => message_refused(refusal),
+        Err(refusal) => message_refused(refusal),
     }
 }
 

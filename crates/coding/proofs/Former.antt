@@ -26,8 +26,6 @@ use Rattle.fields.specs.Numbers.{alphabet_no, language_no}
 use Rattle.octets.specs.Smallest.{first_octet}
 use Rattle.octets.proofs.First.{first-most, first_holds, first-agree}
 use Rattle.coding.specs.declared.Reading.{Reading}
-use Rattle.coding.specs.declared.OctetWritten.{OctetWritten}
-use Rattle.coding.specs.declared.OctetWritten.TheVariants.{Done, Refused}
 use Rattle.coding.specs.Readings.{unmentioned, reserved_reading, without_letters, with_alphabet, with_language, with_prefix}
 use Rattle.coding.specs.OctetRead.{language_of, user_class_of, class_in, general_reading, last_reading, header_reading, read_page, read_under}
 use Rattle.coding.specs.OctetWritten.{same_coding, smallest, octet_writes}
@@ -35,6 +33,8 @@ use Rattle.coding.proofs.Letterless.{letterless, Bare, either, general-bare, las
 use Rattle.coding.proofs.Same.{same-sound}
 use Rattle.coding.proofs.Theorems.{told}
 use Rattle.coding.proofs.Smallest.{write-found}
+use Rattle.std.specs.Prelude.{Result, Ok, Err}
+use Rattle.words.specs.declared.Refusal.{Refusal}
 
 -- document 01, broadcast and USSD
 unfoldable pub former_page : ℕ → Reading
@@ -122,8 +122,8 @@ changed-exactly o h = (go (listed o) refl, λ e same. clash (fresh (former_page 
 abbrev former_smallest : Reading → ℕ
 former_smallest r = first_octet (λ (o : ℕ). same_coding (former_page o) r)
 
-pub former_writes : Reading → OctetWritten
-former_writes r = settle (verdict (when r.reserved Unwritable ∷ when (eqb (former_smallest r) 256) Unwritable ∷ [])) Refused (Done (former_smallest r))
+pub former_writes : Reading → Result ℕ Refusal
+former_writes r = settle (verdict (when r.reserved Unwritable ∷ when (eqb (former_smallest r) 256) Unwritable ∷ [])) Err (Ok (former_smallest r))
 
 -- a reading that passes a test and one that fails it are not alike, if the test looks past letters
 alike-not : (a b : Reading) (test : Reading → Bool) → ((x : Reading) → test x ≡ test (without_letters x)) → T (test a) → T (not (test b)) → same_coding a b ≡ false
@@ -150,7 +150,7 @@ still-smallest r plain h =
     sym (first-agree (λ (o : ℕ). same_coding (former_page o) r) (λ (o : ℕ). same_coding (read_page o) r) (agree r plain old))
 
 -- a service that reads its octets by the table of pages
-pub still-written : (s : Service) → is_old_page s ≡ false → ((o : ℕ) → read_under s o ≡ read_page o) → (r : Reading) (o : ℕ) → former_writes r ≡ Done o → octet_writes s r ≡ Done o
+pub still-written : (s : Service) → is_old_page s ≡ false → ((o : ℕ) → read_under s o ≡ read_page o) → (r : Reading) (o : ℕ) → former_writes r ≡ Ok o → octet_writes s r ≡ Ok o
 unfolding former_writes smallest verdict
 still-written s new same r o e =
     let t = told false r.reserved (eqb (former_smallest r) 256) (former_smallest r) o e in
@@ -161,8 +161,8 @@ still-written s new same r o e =
     first-agree (λ (k : ℕ). same_coding (read_under s k) r) (λ (k : ℕ). same_coding (read_page k) r) (λ k l. ap (λ (x : Reading). same_coding x r) (same k)) ∙ still-smallest r t.1 h in
     write-found s r o new t.1 (first ∙ t.3) (subst (λ (k : ℕ). k < 256) t.3 h)
 
-pub page-still-written : (r : Reading) (o : ℕ) → former_writes r ≡ Done o → octet_writes Broadcast r ≡ Done o
+pub page-still-written : (r : Reading) (o : ℕ) → former_writes r ≡ Ok o → octet_writes Broadcast r ≡ Ok o
 page-still-written = still-written Broadcast refl (λ k. refl)
 
-pub ussd-still-written : (r : Reading) (o : ℕ) → former_writes r ≡ Done o → octet_writes Ussd r ≡ Done o
+pub ussd-still-written : (r : Reading) (o : ℕ) → former_writes r ≡ Ok o → octet_writes Ussd r ≡ Ok o
 ussd-still-written = still-written Ussd refl (λ k. refl)

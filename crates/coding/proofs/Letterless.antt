@@ -17,12 +17,12 @@ use Rattle.fields.specs.declared.Letters.{Letters}
 use Rattle.fields.specs.Letters.{no_letters}
 use Rattle.words.specs.Judging.{Verdict, refused, accepted, verdict, settle}
 use Rattle.coding.specs.declared.Reading.{Reading}
-use Rattle.coding.specs.declared.OctetRead.{OctetRead}
-use Rattle.coding.specs.declared.OctetRead.TheVariants as read
 use Rattle.coding.specs.Answers.{read_reading}
 use Rattle.coding.specs.Readings.{with_letters, without_letters}
 use Rattle.coding.specs.OctetRead.{is_set, general_reading, notice_reading, last_reading, header_reading, read_short, read_page, read_under, octet_reads, octet_rules}
 use Rattle.coding.specs.OctetWritten.{smallest, write_rules, octet_writes}
+use Rattle.std.specs.Prelude.{Result, Ok, Err}
+use Rattle.words.specs.declared.Refusal.{Refusal}
 
 pub letterless : (r : Reading) → r.letters ≡ no_letters → without_letters r ≡ r
 letterless r e = ap (λ (t : Letters). with_letters t r) (sym e)
@@ -85,13 +85,13 @@ read-letterless Broadcast o = page-bare o
 read-letterless Ussd o = page-bare o
 read-letterless OldPage o = refl
 
-pub octet-letterless : (s : Service) (o : ℕ) (r : Reading) → octet_reads s o ≡ read.Done r → r.letters ≡ no_letters
+pub octet-letterless : (s : Service) (o : ℕ) (r : Reading) → octet_reads s o ≡ Ok r → r.letters ≡ no_letters
 unfolding octet_reads
 octet-letterless s o r e = go (verdict (octet_rules s o)) e
   where
-    go : (v : Verdict) → settle v read.Refused (read.Done (read_under s o)) ≡ read.Done r → r.letters ≡ no_letters
-    go (refused q) f = sym (ap (λ (x : OctetRead). (read_reading x).letters) f)
-    go accepted f = sym (ap (λ (x : OctetRead). (read_reading x).letters) f) ∙ read-letterless s o
+    go : (v : Verdict) → settle v Err (Ok (read_under s o)) ≡ Ok r → r.letters ≡ no_letters
+    go (refused q) f = sym (ap (λ (x : Result Reading Refusal). (read_reading x).letters) f)
+    go accepted f = sym (ap (λ (x : Result Reading Refusal). (read_reading x).letters) f) ∙ read-letterless s o
 
 pub write-past-letters : (s : Service) (r : Reading) (t : Letters) → octet_writes s (with_letters t r) ≡ octet_writes s r
 unfolding octet_writes write_rules smallest

@@ -20,6 +20,8 @@ use Rattle.coding.proofs.Reading.with_letters.Kinds as with-letters-kinds
 use Rattle.coding.proofs.Reading.with_letters.Reads as with-letters-reads
 use Rattle.coding.proofs.Reading.text_octet.Kinds as text-octet-kinds
 use Rattle.coding.proofs.Reading.text_octet.Reads as text-octet-reads
+use Rattle.coding.proofs.Held.is_ucs2.Kinds as held-ucs2-kinds
+use Rattle.coding.proofs.Held.is_ucs2.Reads as held-ucs2-reads
 use Rattle.coding.proofs.Reading.is_ucs2.Kinds as is-ucs2-kinds
 use Rattle.coding.proofs.Reading.is_ucs2.Reads as is-ucs2-reads
 use Rattle.coding.proofs.Reading.lettered.Kinds as lettered-kinds
@@ -56,6 +58,9 @@ text-octet-unique κs a x y u v p q = p ∙ sym q
 
 pub lettered-unique : OneAnswer lettered-kinds.ps lettered-kinds.r lettered-reads.Post
 lettered-unique κs a x y u v p q = p ∙ sym q
+
+pub held-ucs2-unique : OneAnswer held-ucs2-kinds.ps held-ucs2-kinds.r held-ucs2-reads.Post
+held-ucs2-unique κs a x y u v p q = p ∙ sym q
 
 pub is-ucs2-unique : OneAnswer is-ucs2-kinds.ps is-ucs2-kinds.r is-ucs2-reads.Post
 is-ucs2-unique κs a x y u v p q = p ∙ sym q

@@ -6,6 +6,7 @@
 --   read-given       what an octet reads as is its line in the table
 --   read-clear       under every other octet a message begins with none
 --   lettered-reading what it then reads as is told by its alphabet
+use Rattle.words.proofs.Rules.{ok-or-err}
 use mathlib.Core.Path.{◌≡◌, refl, ap, ◌∙◌, sym, subst}
 use mathlib.Core.Bool.{Bool, true, false}
 use mathlib.Core.Logic.{◌↔◌, ◌⊎◌, inl, inr, ⊎_elim}
@@ -22,10 +23,10 @@ use Rattle.words.specs.declared.Refusal.{Refusal}
 use Rattle.fields.specs.Numbers.{flag_no}
 use Rattle.fields.proofs.Numbered.{flag-injective}
 use Rattle.coding.specs.declared.Reading.{Reading}
-use Rattle.coding.specs.declared.OctetRead.TheVariants.{Done, Refused}
 use Rattle.coding.specs.OctetRead.{class_in, general_reading, last_reading, header_reading, read_page, read_under, octet_rules, octet_reads}
 use Rattle.coding.specs.Holding.{is_ucs2}
 use Rattle.coding.specs.LanguageLetters.{is_lettered, lettered_in}
+use Rattle.std.specs.Prelude.{Ok, Err}
 
 abbrev prefix_test : ℕ → Bool
 prefix_test o = eqb (flag_no (read_page o).prefix) (flag_no (eqb (o / 2) 8))
@@ -58,31 +59,28 @@ unfolding read_page bits_of gather bit_of
 page-lettered o (inl e) = subst (λ (k : ℕ). read_page k ≡ lettered_in (eqb k 0x11)) (sym e) refl
 page-lettered o (inr e) = subst (λ (k : ℕ). read_page k ≡ lettered_in (eqb k 0x11)) (sym e) refl
 
-pub lettered-read : (s : Service) (o : ℕ) → o < 256 → is_lettered s (read_under s o) ≡ true → octet_reads s o ≡ Done (lettered_in (eqb o 0x11))
+pub lettered-read : (s : Service) (o : ℕ) → o < 256 → is_lettered s (read_under s o) ≡ true → octet_reads s o ≡ Ok (lettered_in (eqb o 0x11))
 unfolding octet_reads octet_rules verdict
 lettered-read ShortMessage o h e = absurd (subst T (sym e) tt)
-lettered-read Broadcast o h e = ap Done (page-lettered o ((lettered-octets o h).0 e))
+lettered-read Broadcast o h e = ap Ok (page-lettered o ((lettered-octets o h).0 e))
 lettered-read Ussd o h e = absurd (subst T (sym e) tt)
 lettered-read OldPage o h e = absurd (subst T (sym e) tt)
 
-refused-or-done : (q : Refusal) (r : Reading) → Done r ≡ Refused q → ⊥
-refused-or-done q r e = let z : ◌≡◌ {A = ℕ} 0 1 = cc in omega arith
-
-pub read-given : (s : Service) (o : ℕ) (r : Reading) → Done r ≡ octet_reads s o → read_under s o ≡ r
+pub read-given : (s : Service) (o : ℕ) (r : Reading) → Ok r ≡ octet_reads s o → read_under s o ≡ r
 unfolding octet_reads
 read-given s o r e = go (verdict (octet_rules s o)) e
   where
-    go : (v : Verdict) → Done r ≡ settle v Refused (Done (read_under s o)) → read_under s o ≡ r
-    go (refused q) f = absurd (refused-or-done q r f)
+    go : (v : Verdict) → Ok r ≡ settle v Err (Ok (read_under s o)) → read_under s o ≡ r
+    go (refused q) f = absurd (ok-or-err f)
     go accepted f = cc
 
-pub read-clear : (s : Service) (o : ℕ) (r : Reading) → is_lettered s (read_under s o) ≡ false → Done r ≡ octet_reads s o → is_lettered s r ≡ false
+pub read-clear : (s : Service) (o : ℕ) (r : Reading) → is_lettered s (read_under s o) ≡ false → Ok r ≡ octet_reads s o → is_lettered s r ≡ false
 read-clear s o r l e = subst (λ (x : Reading). is_lettered s x ≡ false) (read-given s o r e) l
 
 -- a reading under which a message begins with letters is that of its alphabet
-pub lettered-reading : (s : Service) (o : ℕ) (r : Reading) → o < 256 → Done r ≡ octet_reads s o → is_lettered s r ≡ true → r ≡ lettered_in (is_ucs2 r.alphabet)
+pub lettered-reading : (s : Service) (o : ℕ) (r : Reading) → o < 256 → Ok r ≡ octet_reads s o → is_lettered s r ≡ true → r ≡ lettered_in (is_ucs2 r.alphabet)
 lettered-reading s o r h e l =
-    let d : Done r ≡ Done (lettered_in (eqb o 0x11)) = e ∙ lettered-read s o h (ap (is_lettered s) (read-given s o r e) ∙ l) in
+    let d : Ok r ≡ Ok (lettered_in (eqb o 0x11)) = e ∙ lettered-read s o h (ap (is_lettered s) (read-given s o r e) ∙ l) in
     let same : r ≡ lettered_in (eqb o 0x11) = cc in
     subst (λ (x : Reading). x ≡ lettered_in (is_ucs2 x.alphabet)) (sym same) (own (eqb o 0x11))
   where

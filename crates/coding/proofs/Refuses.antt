@@ -3,6 +3,7 @@
 --   exactly   an answer that a verdict settles into is the refusal q where the rules give q, and only there
 --   read-refuses, write-refuses, holds-refuses   the answer is the refusal q where the call's rules give q, and only there
 --   read-refuses-2, write-refuses-8              reading an octet refuses 2 alone, and writing a reading 8 alone
+use Rattle.words.proofs.Rules.{verdict_of}
 use mathlib.Core.Path.{◌≡◌, refl, ap, sym, ◌∙◌}
 use mathlib.Core.Bool.{Bool, true, false, cond}
 use mathlib.Core.List.{List, [], ◌∷◌}
@@ -16,16 +17,13 @@ use Rattle.words.specs.declared.Refusal.TheVariants.{NoText, Unwritable}
 use Rattle.words.specs.Judging.{Rule, when, Verdict, refused, accepted, verdict, settle}
 use Rattle.words.proofs.Judging.{settle-told}
 use Rattle.coding.specs.declared.Reading.{Reading}
-use Rattle.coding.specs.declared.OctetRead.{OctetRead}
-use Rattle.coding.specs.declared.OctetRead.TheVariants as read
-use Rattle.coding.specs.declared.OctetWritten.{OctetWritten}
-use Rattle.coding.specs.declared.OctetWritten.TheVariants as written
 use Rattle.coding.specs.declared.Held.{Held}
-use Rattle.coding.specs.declared.Held.TheVariants as held
 use Rattle.coding.specs.OctetRead.{octet_rules, read_under, octet_reads}
 use Rattle.coding.specs.OctetWritten.{smallest, write_rules, octet_writes}
 use Rattle.coding.specs.Holding.{is_ucs2, text_rules, holds_text}
 use Rattle.coding.specs.Refusing.{GivenBy}
+use Rattle.std.specs.Prelude.{Result, Ok, Err}
+use Rattle.coding.specs.declared.Held.TheVariants as held
 
 same-refusal : (r q : Refusal) → refused r ≡ refused q → q ≡ r
 same-refusal r q e = cc
@@ -58,36 +56,19 @@ module _ {A : Type 0} (tell : A → Verdict) (refuse : Refusal → A) (given : A
     λ (g : GivenBy rules q). ap (λ (v : Verdict). settle v refuse given) (gives rules q g),
   )
 
-abbrev read_told : OctetRead → Verdict
-read_told (read.Done r) = accepted
-read_told (read.Refused q) = refused q
-
-abbrev written_told : OctetWritten → Verdict
-written_told (written.Done o) = accepted
-written_told (written.Refused q) = refused q
-
-abbrev held_told : Held → Verdict
-held_told held.Septets = accepted
-held_told held.Units = accepted
-held_told (held.Refused q) = refused q
-
-text-told : (b : Bool) → held_told (cond b held.Units held.Septets) ≡ accepted
-text-told true = refl
-text-told false = refl
-
-pub read-refuses : (s : Service) (o : ℕ) (q : Refusal) → (octet_reads s o ≡ read.Refused q) ↔ GivenBy (octet_rules s o) q
+pub read-refuses : (s : Service) (o : ℕ) (q : Refusal) → (octet_reads s o ≡ Err q) ↔ GivenBy (octet_rules s o) q
 unfolding octet_reads
-read-refuses s o q = exactly read_told read.Refused (read.Done (read_under s o)) (λ r. refl) refl (octet_rules s o) q
+read-refuses s o q = exactly verdict_of Err (Ok (read_under s o)) (λ r. refl) refl (octet_rules s o) q
 
-pub write-refuses : (s : Service) (r : Reading) (q : Refusal) → (octet_writes s r ≡ written.Refused q) ↔ GivenBy (write_rules s r) q
+pub write-refuses : (s : Service) (r : Reading) (q : Refusal) → (octet_writes s r ≡ Err q) ↔ GivenBy (write_rules s r) q
 unfolding octet_writes
-write-refuses s r q = exactly written_told written.Refused (written.Done (smallest s r)) (λ x. refl) refl (write_rules s r) q
+write-refuses s r q = exactly verdict_of Err (Ok (smallest s r)) (λ x. refl) refl (write_rules s r) q
 
-pub holds-refuses : (s : Service) (r : Reading) (q : Refusal) → (holds_text s r ≡ held.Refused q) ↔ GivenBy (text_rules s r) q
+pub holds-refuses : (s : Service) (r : Reading) (q : Refusal) → (holds_text s r ≡ Err q) ↔ GivenBy (text_rules s r) q
 unfolding holds_text
-holds-refuses s r q = exactly held_told held.Refused (cond (is_ucs2 r.alphabet) held.Units held.Septets) (λ x. refl) (text-told (is_ucs2 r.alphabet)) (text_rules s r) q
+holds-refuses s r q = exactly verdict_of Err (Ok (cond (is_ucs2 r.alphabet) held.Units held.Septets)) (λ x. refl) refl (text_rules s r) q
 
-pub read-refuses-2 : (s : Service) (o : ℕ) (q : Refusal) → octet_reads s o ≡ read.Refused q → q ≡ NoText
+pub read-refuses-2 : (s : Service) (o : ℕ) (q : Refusal) → octet_reads s o ≡ Err q → q ≡ NoText
 unfolding octet_rules
 read-refuses-2 s o q e = only s ((read-refuses s o q).0 e)
   where
@@ -98,7 +79,7 @@ read-refuses-2 s o q e = only s ((read-refuses s o q).0 e)
     only OldPage (inl g) = g.1
     only OldPage (inr g) = absurd g.1
 
-pub write-refuses-8 : (s : Service) (r : Reading) (q : Refusal) → octet_writes s r ≡ written.Refused q → q ≡ Unwritable
+pub write-refuses-8 : (s : Service) (r : Reading) (q : Refusal) → octet_writes s r ≡ Err q → q ≡ Unwritable
 unfolding write_rules
 write-refuses-8 s r q e = only ((write-refuses s r q).0 e)
   where

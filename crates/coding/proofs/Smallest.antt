@@ -16,30 +16,30 @@ use Rattle.keys.specs.Keys.{reserved_digit, short_key, page_key}
 use Rattle.octets.specs.Smallest.{first_octet, short_octet, page_octet}
 use Rattle.octets.proofs.First.{first-most, first-agree}
 use Rattle.coding.specs.declared.Reading.{Reading}
-use Rattle.coding.specs.declared.OctetWritten.TheVariants.{Done, Refused}
 use Rattle.coding.specs.OctetRead.{read_under}
 use Rattle.coding.specs.OctetWritten.{same_coding, smallest, write_rules, octet_writes}
 use Rattle.coding.specs.Inner.{key_of, written_as}
 use Rattle.coding.proofs.Keys.{key-digits, flag-back}
 use Rattle.coding.proofs.Same.{same_key}
 use Rattle.coding.proofs.Octets.{short-key-is, page-key-is}
+use Rattle.std.specs.Prelude.{Ok, Err}
 
-pub write-old : (r : Reading) → octet_writes OldPage r ≡ Refused Unwritable
+pub write-old : (r : Reading) → octet_writes OldPage r ≡ Err Unwritable
 unfolding octet_writes write_rules verdict
 write-old r = refl
 
-pub write-reserved : (s : Service) (r : Reading) → r.reserved ≡ true → octet_writes s r ≡ Refused Unwritable
+pub write-reserved : (s : Service) (r : Reading) → r.reserved ≡ true → octet_writes s r ≡ Err Unwritable
 unfolding octet_writes write_rules verdict
 write-reserved ShortMessage r e = simp e
 write-reserved Broadcast r e = simp e
 write-reserved Ussd r e = simp e
 write-reserved OldPage r e = refl
 
-pub write-found : (s : Service) (r : Reading) (o : ℕ) → is_old_page s ≡ false → r.reserved ≡ false → smallest s r ≡ o → o < 256 → octet_writes s r ≡ Done o
+pub write-found : (s : Service) (r : Reading) (o : ℕ) → is_old_page s ≡ false → r.reserved ≡ false → smallest s r ≡ o → o < 256 → octet_writes s r ≡ Ok o
 unfolding octet_writes write_rules verdict
 write-found s r o new plain e l = simp (new, plain, e, ne_eqb o 256 (omega arith))
 
-pub write-none : (s : Service) (r : Reading) → is_old_page s ≡ false → r.reserved ≡ false → smallest s r ≡ 256 → octet_writes s r ≡ Refused Unwritable
+pub write-none : (s : Service) (r : Reading) → is_old_page s ≡ false → r.reserved ≡ false → smallest s r ≡ 256 → octet_writes s r ≡ Err Unwritable
 unfolding octet_writes write_rules verdict
 write-none s r new plain e = simp (new, plain, e)
 

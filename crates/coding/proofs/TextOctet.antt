@@ -7,6 +7,7 @@
 --                   without the prefix mark there is then no letter at all; without a letter it is what data coding alone writes
 --   coding-read     without the prefix mark, reading what was written gives the reading back
 --   coding-complete a reading that is not reserved and that an octet has is written
+use Rattle.words.proofs.Rules.{ok-or-err}
 use mathlib.Core.Path.{◌≡◌, refl, ap, sym, ◌∙◌}
 use mathlib.Core.Bool.{Bool, true, false, not, ◌&&◌, ◌||◌}
 use mathlib.Core.List.{List, [], ◌∷◌, ◌++◌}
@@ -22,15 +23,13 @@ use Rattle.words.specs.Judging.{Rule, when, Verdict, refused, accepted, verdict,
 use Rattle.fields.specs.declared.Letters.{Letters}
 use Rattle.fields.specs.Letters.{no_letters, any_letter}
 use Rattle.coding.specs.declared.Reading.{Reading}
-use Rattle.coding.specs.declared.OctetRead.TheVariants as read
-use Rattle.coding.specs.declared.OctetWritten.{OctetWritten}
-use Rattle.coding.specs.declared.OctetWritten.TheVariants.{Done, Refused}
 use Rattle.coding.specs.OctetRead.{octet_reads}
 use Rattle.coding.specs.OctetWritten.{smallest, write_rules, octet_writes}
 use Rattle.coding.specs.LanguageLetters.{stray_letters, coding_rules, coding_writes}
 use Rattle.coding.proofs.Letterless.{letterless, octet-letterless}
 use Rattle.coding.proofs.Refuses.{write-refuses-8}
 use Rattle.coding.proofs.Theorems.{write_read, write-complete}
+use Rattle.std.specs.Prelude.{Result, Ok, Err}
 
 -- a rule behind all others: where it holds it gives its refusal to what they accept, and where not it changes nothing
 behind : (rules : List Rule) (t : Bool) (q : Refusal) → verdict (rules ++ (when t q ∷ [])) ≡ settle (verdict rules) refused (verdict (when t q ∷ []))
@@ -40,14 +39,14 @@ behind (when true r ∷ rules) t q = refl
 behind (when false r ∷ rules) t q = behind rules t q
 
 module _ (s : Service) (r : Reading) where
-  unfoldable judged : Bool → Verdict → OctetWritten
-  judged t v = settle (settle v refused (verdict (when t Unwritable ∷ []))) Refused (Done (smallest s r))
+  unfoldable judged : Bool → Verdict → Result ℕ Refusal
+  judged t v = settle (settle v refused (verdict (when t Unwritable ∷ []))) Err (Ok (smallest s r))
 
   by-stray : coding_writes s r ≡ judged (stray_letters r) (verdict (write_rules s r))
   unfolding coding_writes coding_rules judged
-  by-stray = ap (λ (v : Verdict). settle v Refused (Done (smallest s r))) (behind (write_rules s r) (stray_letters r) Unwritable)
+  by-stray = ap (λ (v : Verdict). settle v Err (Ok (smallest s r))) (behind (write_rules s r) (stray_letters r) Unwritable)
 
-  bare : (v : Verdict) → judged false v ≡ settle v Refused (Done (smallest s r))
+  bare : (v : Verdict) → judged false v ≡ settle v Err (Ok (smallest s r))
   unfolding judged verdict
   bare (refused q) = refl
   bare accepted = refl
@@ -56,22 +55,19 @@ module _ (s : Service) (r : Reading) where
   unfolding octet_writes
   coding-bare e = by-stray ∙ ap (λ (t : Bool). judged t (verdict (write_rules s r))) e ∙ bare (verdict (write_rules s r))
 
-  pub coding-stray : stray_letters r ≡ true → coding_writes s r ≡ Refused Unwritable
+  pub coding-stray : stray_letters r ≡ true → coding_writes s r ≡ Err Unwritable
   unfolding octet_writes judged verdict
   coding-stray e = by-stray ∙ ap (λ (t : Bool). judged t (verdict (write_rules s r))) e ∙ go (verdict (write_rules s r)) refl
     where
-      go : (v : Verdict) → verdict (write_rules s r) ≡ v → judged true v ≡ Refused Unwritable
-      go (refused q) f = ap Refused (write-refuses-8 s r q (ap (λ (v : Verdict). settle v Refused (Done (smallest s r))) f))
+      go : (v : Verdict) → verdict (write_rules s r) ≡ v → judged true v ≡ Err Unwritable
+      go (refused q) f = ap Err (write-refuses-8 s r q (ap (λ (v : Verdict). settle v Err (Ok (smallest s r))) f))
       go accepted f = refl
 
-  pub coding-written : (o : ℕ) → coding_writes s r ≡ Done o → (stray_letters r ≡ false) × (octet_writes s r ≡ Done o)
+  pub coding-written : (o : ℕ) → coding_writes s r ≡ Ok o → (stray_letters r ≡ false) × (octet_writes s r ≡ Ok o)
   coding-written o e = go (stray_letters r) refl
     where
-      none : Refused Unwritable ≡ Done o → ⊥
-      none f = let z : ◌≡◌ {A = ℕ} 0 1 = cc in omega arith
-
-      go : (t : Bool) → stray_letters r ≡ t → (stray_letters r ≡ false) × (octet_writes s r ≡ Done o)
-      go true f = absurd (none (sym (coding-stray f) ∙ e))
+      go : (t : Bool) → stray_letters r ≡ t → (stray_letters r ≡ false) × (octet_writes s r ≡ Ok o)
+      go true f = absurd (ok-or-err (sym e ∙ coding-stray f))
       go false f = (f, sym (coding-bare f) ∙ e)
 
 -- letters of which none is there are both absent
@@ -95,11 +91,11 @@ letterless-coding s r e = coding-bare s r (ap (λ (t : Letters). not r.prefix &&
     never true = refl
     never false = refl
 
-pub coding-read : (s : Service) (r : Reading) (o : ℕ) → r.prefix ≡ false → coding_writes s r ≡ Done o → octet_reads s o ≡ read.Done r
-coding-read s r o p e = let w = coding-written s r o e in write_read s r o w.1 ∙ ap read.Done (letterless r (bare-letterless r p w.0))
+pub coding-read : (s : Service) (r : Reading) (o : ℕ) → r.prefix ≡ false → coding_writes s r ≡ Ok o → octet_reads s o ≡ Ok r
+coding-read s r o p e = let w = coding-written s r o e in write_read s r o w.1 ∙ ap Ok (letterless r (bare-letterless r p w.0))
 
-pub coding-complete : (s : Service) (r : Reading) (o : ℕ) → is_old_page s ≡ false → r.reserved ≡ false → o < 256 → octet_reads s o ≡ read.Done r → (k : ℕ) × (coding_writes s r ≡ Done k)
+pub coding-complete : (s : Service) (r : Reading) (o : ℕ) → is_old_page s ≡ false → r.reserved ≡ false → o < 256 → octet_reads s o ≡ Ok r → (k : ℕ) × (coding_writes s r ≡ Ok k)
 coding-complete s r o new plain l h =
     let bare = octet-letterless s o r h in
-    let k = write-complete s r o new plain l (h ∙ ap read.Done (sym (letterless r bare))) in
+    let k = write-complete s r o new plain l (h ∙ ap Ok (sym (letterless r bare))) in
     (k.0, letterless-coding s r bare ∙ k.1)

@@ -3,13 +3,12 @@
 --   reserved_octets s   == the octets that are reserved under service s
 --   writable_readings s == the readings that can be written under service s
 --   counts              == a line for each service: reserved octets, writable readings
-use Rattle.std.specs.Prelude.{ℕ, zero, suc, Bool, true, false, List, [], ◌∷◌, eqb}
+use Rattle.std.specs.Prelude.{ℕ, zero, suc, Bool, true, false, List, [], ◌∷◌, eqb, Result, Ok, Err}
 use Rattle.words.specs.declared.Service.{Service}
 use Rattle.words.specs.declared.Service.TheVariants.{ShortMessage, Broadcast, Ussd}
-use Rattle.coding.specs.declared.OctetWritten.{OctetWritten}
-use Rattle.coding.specs.declared.OctetWritten.TheVariants.{Done, Refused}
 use Rattle.coding.specs.OctetRead.{read_under}
 use Rattle.coding.specs.OctetWritten.{octet_writes}
+use Rattle.words.specs.declared.Refusal.{Refusal}
 
 -- how many of the n numbers from i on pass a test
 unfoldable pub counted : (ℕ → Bool) → ℕ → ℕ → ℕ
@@ -20,9 +19,9 @@ abbrev pub reserved_octets : Service → ℕ
 reserved_octets s = counted (λ (o : ℕ). (read_under s o).reserved) 0 256
 
 -- writing gave octet o
-abbrev pub gives : ℕ → OctetWritten → Bool
-gives o (Done k) = eqb k o
-gives o (Refused r) = false
+abbrev pub gives : ℕ → Result ℕ Refusal → Bool
+gives o (Ok k) = eqb k o
+gives o (Err r) = false
 
 -- a writable reading is written as one octet, so these octets are as many
 abbrev pub writable_readings : Service → ℕ

@@ -4,7 +4,8 @@
 -- Own rule: none. Cited by Reading::holds. Assumes nothing.
 --   text_rules s r == why a reading holds no text under service s: 1 compressed, 2 8-bit, WAP or I1, 3 prefix mark or header mark; alike under every service
 --   holds_text s r == the alphabet of its text, or the refusal
-use Rattle.std.specs.Prelude.{Bool, true, false, cond, List, [], ◌∷◌}
+--   holds_units h  == whether that alphabet is UCS2
+use Rattle.std.specs.Prelude.{Bool, true, false, cond, List, [], ◌∷◌, Result, Ok, Err}
 use Rattle.words.specs.Judging.{Rule, when, verdict, settle}
 use Rattle.words.specs.declared.Service.{Service}
 use Rattle.words.specs.declared.Refusal.TheVariants.{Compressed, NoText, Prefixed}
@@ -12,7 +13,8 @@ use Rattle.fields.specs.declared.Alphabet.{Alphabet}
 use Rattle.fields.specs.declared.Alphabet.TheVariants.{SevenBit, EightBit, Ucs2, Wap, I1}
 use Rattle.coding.specs.declared.Reading.{Reading}
 use Rattle.coding.specs.declared.Held.{Held}
-use Rattle.coding.specs.declared.Held.TheVariants.{Septets, Units, Refused}
+use Rattle.words.specs.declared.Refusal.{Refusal}
+use Rattle.coding.specs.declared.Held.TheVariants as held
 
 abbrev pub is_data : Alphabet → Bool
 is_data SevenBit = false
@@ -36,5 +38,9 @@ text_rules s r =
     ∷ when r.header Prefixed
     ∷ []
 
-unfoldable pub holds_text : Service → Reading → Held
-holds_text s r = settle (verdict (text_rules s r)) Refused (cond (is_ucs2 r.alphabet) Units Septets)
+unfoldable pub holds_text : Service → Reading → Result Held Refusal
+holds_text s r = settle (verdict (text_rules s r)) Err (Ok (cond (is_ucs2 r.alphabet) held.Units held.Septets))
+
+abbrev pub holds_units : Held → Bool
+holds_units held.Septets = false
+holds_units held.Units = true

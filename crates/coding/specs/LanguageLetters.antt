@@ -6,17 +6,16 @@
 --   stray_letters r   == r has a letter, and no prefix mark
 --   coding_rules s r  == the refusals of a text's coding octet: those of data coding alone, then letters in another coding
 --   coding_writes s r == the coding octet of a text with the reading r under s, or the refusal
-use Rattle.std.specs.Prelude.{Bool, true, false, not, ◌&&◌, List, [], ◌∷◌, ◌++◌}
+use Rattle.std.specs.Prelude.{ℕ, Bool, true, false, not, ◌&&◌, List, [], ◌∷◌, ◌++◌, Result, Ok, Err}
 use Rattle.words.specs.Judging.{Rule, when, verdict, settle}
 use Rattle.words.specs.declared.Service.{Service}
 use Rattle.words.specs.declared.Service.TheVariants.{ShortMessage, Broadcast, Ussd, OldPage}
 use Rattle.words.specs.declared.Refusal.TheVariants.{Unwritable}
 use Rattle.fields.specs.Letters.{any_letter}
 use Rattle.coding.specs.declared.Reading.{Reading}
-use Rattle.coding.specs.declared.OctetWritten.{OctetWritten}
-use Rattle.coding.specs.declared.OctetWritten.TheVariants.{Done, Refused}
 use Rattle.coding.specs.Readings.{plain_in, with_prefix}
 use Rattle.coding.specs.OctetWritten.{smallest, write_rules}
+use Rattle.words.specs.declared.Refusal.{Refusal}
 
 abbrev pub is_lettered : Service → Reading → Bool
 is_lettered ShortMessage r = false
@@ -33,5 +32,5 @@ stray_letters r = not r.prefix && any_letter r.letters
 unfoldable pub coding_rules : Service → Reading → List Rule
 coding_rules s r = write_rules s r ++ (when (stray_letters r) Unwritable ∷ [])
 
-unfoldable pub coding_writes : Service → Reading → OctetWritten
-coding_writes s r = settle (verdict (coding_rules s r)) Refused (Done (smallest s r))
+unfoldable pub coding_writes : Service → Reading → Result ℕ Refusal
+coding_writes s r = settle (verdict (coding_rules s r)) Err (Ok (smallest s r))

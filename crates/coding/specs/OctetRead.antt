@@ -5,7 +5,7 @@
 --   read_page o      == how it reads in a broadcast page and in USSD
 --   octet_rules s o  == the refusals of reading octet o under service s, in order
 --   octet_reads s o  == the reading of octet o under service s, or the refusal
-use Rattle.std.specs.Prelude.{ℕ, Bool, true, cond, List, [], ◌∷◌, ◌++◌, ltb, eqb, get_or}
+use Rattle.std.specs.Prelude.{ℕ, Bool, true, cond, List, [], ◌∷◌, ◌++◌, ltb, eqb, get_or, Result, Ok, Err}
 use Rattle.lists.specs.Bits.{bit_of, bits_of}
 use Rattle.words.specs.Judging.{Rule, when, verdict, settle, service_rules}
 use Rattle.words.specs.declared.Service.{Service}
@@ -22,9 +22,8 @@ use Rattle.fields.specs.declared.Kind.TheVariants.{Voicemail, Fax, Mail, Other}
 use Rattle.fields.specs.declared.Notice.{Notice}
 use Rattle.fields.specs.declared.Notice.TheVariants.{Discard, Store}
 use Rattle.coding.specs.declared.Reading.{Reading}
-use Rattle.coding.specs.declared.OctetRead.{OctetRead}
-use Rattle.coding.specs.declared.OctetRead.TheVariants.{Done, Refused}
 use Rattle.coding.specs.Readings.{unmentioned, reserved_reading, with_alphabet, with_compressed, with_class, with_language, with_deletion, with_notice, with_prefix, with_header}
+use Rattle.words.specs.declared.Refusal.{Refusal}
 
 -- bit i is set
 abbrev pub is_set : ℕ → ℕ → Bool
@@ -132,5 +131,5 @@ read_under Broadcast o = read_page o
 read_under Ussd o = read_page o
 read_under OldPage o = unmentioned
 
-unfoldable pub octet_reads : Service → ℕ → OctetRead
-octet_reads s o = settle (verdict (octet_rules s o)) Refused (Done (read_under s o))
+unfoldable pub octet_reads : Service → ℕ → Result Reading Refusal
+octet_reads s o = settle (verdict (octet_rules s o)) Err (Ok (read_under s o))

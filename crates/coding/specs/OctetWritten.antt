@@ -5,17 +5,16 @@
 --   smallest s r     == the first octet of 0 to 255 that reads as r under service s, and 256 where none does
 --   write_rules s r  == the refusals of writing r under s, in order
 --   octet_writes s r == the octet that writing r under s gives, or the refusal
-use Rattle.std.specs.Prelude.{ℕ, Bool, false, cond, List, [], ◌∷◌, ◌++◌, eqb}
+use Rattle.std.specs.Prelude.{ℕ, Bool, false, cond, List, [], ◌∷◌, ◌++◌, eqb, Result, Ok, Err}
 use Rattle.octets.specs.Smallest.{first_octet}
 use Rattle.words.specs.Sizes.{is_old_page}
 use Rattle.words.specs.Judging.{Rule, when, verdict, settle, service_rules}
 use Rattle.words.specs.declared.Service.{Service}
 use Rattle.words.specs.declared.Refusal.TheVariants.{Unwritable}
 use Rattle.coding.specs.declared.Reading.{Reading}
-use Rattle.coding.specs.declared.OctetWritten.{OctetWritten}
-use Rattle.coding.specs.declared.OctetWritten.TheVariants.{Done, Refused}
 use Rattle.fields.specs.Numbers.{alphabet_no, class_no, language_no, notice_no, flag_no}
 use Rattle.coding.specs.OctetRead.{read_under}
+use Rattle.words.specs.declared.Refusal.{Refusal}
 
 abbrev pub same_coding : Reading → Reading → Bool
 same_coding a b =
@@ -41,5 +40,5 @@ write_rules s r =
     ∷ when (eqb (smallest s r) 256) Unwritable
     ∷ [])
 
-unfoldable pub octet_writes : Service → Reading → OctetWritten
-octet_writes s r = settle (verdict (write_rules s r)) Refused (Done (smallest s r))
+unfoldable pub octet_writes : Service → Reading → Result ℕ Refusal
+octet_writes s r = settle (verdict (write_rules s r)) Err (Ok (smallest s r))

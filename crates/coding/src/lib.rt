@@ -8,10 +8,9 @@ ghost use Rattle.coding.specs.LanguageLetters.{is_lettered, coding_writes};
 ghost use Rattle.coding.specs.OctetRead.{read_under, octet_reads};
 ghost use Rattle.fields.specs.Numbers.{alphabets, classes, languages};
 ghost use Rattle.coding.specs.OctetWritten.{octet_writes};
-ghost use Rattle.coding.specs.declared.OctetWritten.TheVariants.{Done};
 ghost use Rattle.fields.specs.Letters.{any_letter};
 ghost use Rattle.keys.specs.Keys.{alphabet_digit, class_digit, language_digit};
-ghost use Rattle.coding.specs.Holding.{is_ucs2, holds_text};
+ghost use Rattle.coding.specs.Holding.{is_ucs2, holds_text, holds_units};
 ghost use Rattle.coding.specs.Inner.{key_of, reading_of, written_as, unmarked_holds};
 
 use fields::{
@@ -35,26 +34,23 @@ pub struct Reading {
     pub letters: Letters,
 }
 
-// What reading an octet answers.
-#[derive(Clone, Copy)]
-pub enum OctetRead {
-    Done(Reading),
-    Refused(Refusal),
-}
-
-// What writing a reading answers.
-#[derive(Clone, Copy)]
-pub enum OctetWritten {
-    Done(u8),
-    Refused(Refusal),
-}
-
 // What text a reading holds.
 #[derive(Clone, Copy)]
 pub enum Held {
     Septets,
     Units,
-    Refused(Refusal),
+}
+
+impl Held {
+    // Whether it is UCS2.
+    pub fn is_ucs2(self) -> bool
+        ensures answer { result ≡ holds_units self }
+    {
+        match self {
+            Held::Septets => false,
+            Held::Units => true,
+        }
+    }
 }
 
 impl Reading {
@@ -110,31 +106,14 @@ impl Reading {
     pub fn with_alphabet(self, alphabet: Alphabet) -> Self
         ensures answer { result ≡ with_alphabet alphabet self }
     {
-        let class = self.class;
-        let language = self.language;
-        let notice = self.notice;
-        let letters = self.letters;
-        Self {
-            alphabet: alphabet,
-            compressed: self.compressed,
-            class: class,
-            language: language,
-            deletion: self.deletion,
-            notice: notice,
-            prefix: self.prefix,
-            reserved: self.reserved,
-            header: self.header,
-            letters: letters,
-        }
+        Self { alphabet, ..self }
     }
 
     // A copy with other letters.
     pub fn with_letters(self, letters: Letters) -> Self
         ensures answer { result ≡ with_letters letters self }
     {
-        let mut copy = self;
-        copy.letters = letters;
-        copy
+        Self { letters, ..self }
     }
 }
 
@@ -143,14 +122,10 @@ impl Reading {
     fn key(self) -> u32
         ensures { result ≡ key_of self }
     {
-        let alphabet = self.alphabet;
-        let class = self.class;
-        let language = self.language;
-        let notice = self.notice;
-        (alphabet.number() as u32)
-            + CLASS * (class.number() as u32)
-            + LANGUAGE * (language.number() as u32)
-            + NOTICE * (notice.number() as u32)
+        (self.alphabet.number() as u32)
+            + CLASS * (self.class.number() as u32)
+            + LANGUAGE * (self.language.number() as u32)
+            + NOTICE * (self.notice.number() as u32)
             + COMPRESSED * (flag(self.compressed) as u32)
             + DELETION * (flag(self.deletion) as u32)
             + PREFIX * (flag(self.prefix) as u32)
@@ -164,23 +139,13 @@ fn reading_of(key: u32) -> Reading
     requires { (alphabet_digit key < length alphabets) × (class_digit key < length classes) × (language_digit key < length languages) }
     ensures { result ≡ reading_of key }
 {
-    let alphabet_no = (key % 8) as usize;
-    let alphabets = ALPHABETS;
-    let alphabet = alphabets[alphabet_no];
-    let class_no = (key / CLASS % 8) as usize;
-    let classes = CLASSES;
-    let class = classes[class_no];
-    let language_no = (key / LANGUAGE % 32) as usize;
-    let languages = LANGUAGES;
-    let language = languages[language_no];
-    let notice = notice_at(key / NOTICE % 64);
     Reading::of(
-        alphabet,
+        ALPHABETS[(key % 8) as usize],
         key / COMPRESSED % 2 == 1,
-        class,
-        language,
+        CLASSES[(key / CLASS % 8) as usize],
+        LANGUAGES[(key / LANGUAGE % 32) as usize],
         key / DELETION % 2 == 1,
-        notice,
+        notice_at(key / NOTICE % 64),
         key / PREFIX % 2 == 1,
         key / RESERVED % 2 == 1,
         key / HEADER % 2 == 1,
@@ -188,13 +153,13 @@ fn reading_of(key: u32) -> Reading
 }
 
 // What an octet says under a service. Refuses 2 for an old page whose bits 3..0 are not 0.
-pub fn read_octet(service: Service, octet: u8) -> OctetRead
+pub fn read_octet(service: Service, octet: u8) -> Result<Reading, Refusal>
     ensures answer { result ≡ octet_reads service octet }
 {
     if no_alphabet(service, octet) {
-        return OctetRead::Refused(Refusal::NoText);
+        return Err(Refusal::NoText);
     }
-    OctetRead::Done(reading_of(octet_key(service, octet)))
+    Ok(reading_of(octet_key(service, octet)))
 }
 
 // Whether bits 3..0 of an old page's octet name an alphabet that it does not have.
@@ -217,14 +182,14 @@ fn octet_key(service: Service, octet: u8) -> u32
 }
 
 // The octet of plain text under a service, 7-bit or UCS2: what writing Reading::plain() in that alphabet gives. Refuses 8 for an old page.
-pub fn plain_octet(service: Service, ucs2: bool) -> OctetWritten
+pub fn plain_octet(service: Service, ucs2: bool) -> Result<u8, Refusal>
     ensures answer { result ≡ octet_writes service (plain_in ucs2) }
 {
     match service {
         Service::ShortMessage => plain_done(ucs2, 0x00, 0x08),
         Service::Broadcast => plain_done(ucs2, 0x0f, 0x48),
         Service::Ussd => plain_done(ucs2, 0x0f, 0x48),
-        Service::OldPage => OctetWritten::Refused(Refusal::Unwritable),
+        Service::OldPage => Err(Refusal::Unwritable),
     }
 }
 
@@ -242,31 +207,27 @@ pub fn lettered_octet(service: Service, octet: u8) -> bool
 }
 
 // One octet for 7-bit text, or one for UCS2.
-fn plain_done(ucs2: bool, septets: u8, units: u8) -> OctetWritten
-    ensures { result ≡ Done (cond ucs2 units septets) }
+fn plain_done(ucs2: bool, septets: u8, units: u8) -> Result<u8, Refusal>
+    ensures { result ≡ Ok (cond ucs2 units septets) }
 {
-    if ucs2 {
-        OctetWritten::Done(units)
-    } else {
-        OctetWritten::Done(septets)
-    }
+    if ucs2 { Ok(units) } else { Ok(septets) }
 }
 
 // The answer of an octet, or of 256, which is none.
-fn written(octet: u16) -> OctetWritten
+fn written(octet: u16) -> Result<u8, Refusal>
     ensures { result ≡ written_as octet }
 {
     if octet < 256 {
-        OctetWritten::Done(octet as u8)
+        Ok(octet as u8)
     } else {
-        OctetWritten::Refused(Refusal::Unwritable)
+        Err(Refusal::Unwritable)
     }
 }
 
 impl Reading {
     // The smallest octet that reads as self under the service. Refuses 8 for an old page, for a reserved reading, and where no octet
     // reads so.
-    pub fn write(self, service: Service) -> OctetWritten
+    pub fn write(self, service: Service) -> Result<u8, Refusal>
         ensures answer { result ≡ octet_writes service self }
     {
         let key = self.key();
@@ -274,16 +235,16 @@ impl Reading {
             Service::ShortMessage => written(octets::short_octet(key)),
             Service::Broadcast => written(octets::page_octet(key)),
             Service::Ussd => written(octets::page_octet(key)),
-            Service::OldPage => OctetWritten::Refused(Refusal::Unwritable),
+            Service::OldPage => Err(Refusal::Unwritable),
         }
     }
 
     // The coding octet of a text with this reading: as write, but that a letter without the prefix mark is refused 8 too.
-    pub fn text_octet(self, service: Service) -> OctetWritten
+    pub fn text_octet(self, service: Service) -> Result<u8, Refusal>
         ensures answer { result ≡ coding_writes service self }
     {
         if stray(self.prefix, self.letters) {
-            return OctetWritten::Refused(Refusal::Unwritable);
+            return Err(Refusal::Unwritable);
         }
         self.write(service)
     }
@@ -292,14 +253,7 @@ impl Reading {
     pub fn is_ucs2(self) -> bool
         ensures answer { result ≡ is_ucs2 self.alphabet }
     {
-        let alphabet = self.alphabet;
-        match alphabet {
-            Alphabet::SevenBit => false,
-            Alphabet::EightBit => false,
-            Alphabet::Ucs2 => true,
-            Alphabet::Wap => false,
-            Alphabet::I1 => false,
-        }
+        matches!(self.alphabet, Alphabet::Ucs2)
     }
 
     // Whether one message begins with the letters of its language: a broadcast page with the prefix mark.
@@ -316,35 +270,34 @@ impl Reading {
 
     // Whether it holds text under the service, and if not, why: 1 compressed, 2 8-bit, WAP or I1, 3 the prefix mark or the header mark. Every
     // service judges alike; one broadcast page is judged by lettered first.
-    pub fn holds(self, service: Service) -> Held
+    pub fn holds(self, service: Service) -> Result<Held, Refusal>
         ensures answer { result ≡ holds_text service self }
     {
         if self.compressed {
-            return Held::Refused(Refusal::Compressed);
+            return Err(Refusal::Compressed);
         }
-        let alphabet = self.alphabet;
-        match alphabet {
+        match self.alphabet {
             Alphabet::SevenBit => self.unmarked(Held::Septets),
-            Alphabet::EightBit => Held::Refused(Refusal::NoText),
+            Alphabet::EightBit => Err(Refusal::NoText),
             Alphabet::Ucs2 => self.unmarked(Held::Units),
-            Alphabet::Wap => Held::Refused(Refusal::NoText),
-            Alphabet::I1 => Held::Refused(Refusal::NoText),
+            Alphabet::Wap => Err(Refusal::NoText),
+            Alphabet::I1 => Err(Refusal::NoText),
         }
     }
 }
 
 impl Reading {
     // That text, but 3 where a mark says that something stands in front of it.
-    fn unmarked(self, text: Held) -> Held
+    fn unmarked(self, text: Held) -> Result<Held, Refusal>
         ensures { result ≡ unmarked_holds self text }
     {
         if self.prefix {
-            return Held::Refused(Refusal::Prefixed);
+            return Err(Refusal::Prefixed);
         }
         if self.header {
-            return Held::Refused(Refusal::Prefixed);
+            return Err(Refusal::Prefixed);
         }
-        text
+        Ok(text)
     }
 }
 

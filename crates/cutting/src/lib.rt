@@ -6,13 +6,12 @@ ghost use Rattle.parted.specs.Parts.{room_behind, parts_holding};
 ghost use Rattle.parted.specs.Cutting.{planned_as, plan_room, part_length};
 ghost use Rattle.parted.specs.Inner.{sized_plan};
 
-use letters::Measured;
-use parted::{Plan, Planned};
+use parted::Plan;
 use words::Refusal;
 
 // How a text is cut.
 // Refuses a unit that is not in the alphabet (6, the first), more than 255 parts (5).
-pub fn plan(ucs2: bool, units: &[u16]) -> Planned
+pub fn plan(ucs2: bool, units: &[u16]) -> Result<Plan, Refusal>
     ensures answer { result ≡ planned_as ucs2 units.now }
 {
     if ucs2 {
@@ -21,20 +20,20 @@ pub fn plan(ucs2: bool, units: &[u16]) -> Planned
     let seen = to_septets::survey(units);
     let measured = seen.measured;
     match measured {
-        Measured::Septets(n) => planned(false, seen.own, n),
-        Measured::Stopped(unit) => Planned::Refused(Refusal::Unlisted { unit: unit }),
+        Ok(n) => planned(false, seen.own, n),
+        Err(unit) => Err(Refusal::Unlisted { unit: unit }),
     }
 }
 
 // The same of so many units or septets: 5.
-fn planned(ucs2: bool, plain: bool, n: usize) -> Planned
+fn planned(ucs2: bool, plain: bool, n: usize) -> Result<Plan, Refusal>
     ensures { result ≡ sized_plan ucs2 plain n }
 {
     let total = parts_holding(ucs2, n);
     if 255 < total {
-        return Planned::Refused(Refusal::TooLong);
+        return Err(Refusal::TooLong);
     }
-    Planned::Parts(Plan {
+    Ok(Plan {
         ucs2: ucs2,
         plain: plain,
         total: total,

@@ -3,6 +3,7 @@
 --   write-accepts, write-accepted    the writer accepts exactly where the text is Writable, with these octets, this count and this coding octet
 --   read-accepts, read-accepted      the reader accepts exactly where the octets are Readable, with these units and this reading
 -- Both of every reading but those of a page with letters in front of its text, which Lettered.antt has.
+use Rattle.words.proofs.Rules.{verdict_of}
 use mathlib.Core.Path.{◌≡◌, refl, ap, ◌∙◌, sym, subst}
 use mathlib.Core.Bool.{Bool, true, false, not}
 use mathlib.Core.List.{List, [], ◌∷◌, ◌++◌}
@@ -16,8 +17,6 @@ use Rattle.lists.specs.Lists.{laid}
 use Rattle.words.specs.Judging.{when, Verdict, refused, accepted, verdict}
 use Rattle.words.proofs.Judging.{accepted-rule, accepted-parts, accepted-both, settle-told, settle-given}
 use Rattle.coding.specs.declared.Reading.{Reading}
-use Rattle.coding.specs.declared.OctetRead.TheVariants as octet-read
-use Rattle.coding.specs.declared.OctetWritten.TheVariants as octet-written
 use Rattle.coding.specs.OctetRead.{read_under, octet_reads, octet_rules}
 use Rattle.coding.specs.OctetWritten.{smallest}
 use Rattle.coding.specs.LanguageLetters.{is_lettered, coding_rules, coding_writes}
@@ -26,15 +25,17 @@ use Rattle.coding.proofs.TextOctet.{coding-written, coding-read, coding-complete
 use Rattle.coding.proofs.Theorems.{settled}
 use Rattle.letters.specs.Writing.{first_unlisted}
 use Rattle.demands.specs.declared.MessageRead.{MessageRead}
-use Rattle.demands.specs.declared.MessageRead.TheVariants as read
 use Rattle.demands.specs.declared.MessageWritten.{MessageWritten}
-use Rattle.demands.specs.declared.MessageWritten.TheVariants as written
 use Rattle.demands.specs.MessageRead.{held_text, text_length_rules, fits_reading, text_of_message, length_rules, reading_of_message, heard_rules, read_rules, read_answers, read_leaves}
 use Rattle.demands.specs.MessageWritten.{text_octets, text_size_rules, not_codable, over_size, message_octets, message_count, size_rules, mark_rules, write_rules, write_answers, write_leaves}
 use Rattle.demands.specs.Demands.{HoldsText, Writable, Readable}
 use Rattle.demands.proofs.Unlettered.{unmarked, mark-rules, size-rules, octets-same, heard-rules, length-rules, text_same, reading-same}
 use Rattle.coding.proofs.Prefixed.{read-given}
 use Rattle.demands.proofs.Steps.{text-accepted, octet-verdict, coding-verdict}
+use Rattle.std.specs.Prelude.{Result, Ok, Err}
+use Rattle.words.specs.declared.Refusal.{Refusal}
+use Rattle.demands.specs.Successes.{ok_message_written}
+use Rattle.demands.specs.Successes.{ok_message_read}
 
 pub text-accepts : (s : Service) (r : Reading) → HoldsText r → verdict (text_rules s r) ≡ accepted
 unfolding text_rules verdict
@@ -42,14 +43,10 @@ text-accepts s r h = simp (h.clear, h.text, h.unmarked, h.unheaded)
 
 -- ---- the writer
 
-abbrev written_told : MessageWritten → Verdict
-written_told (written.Done octets count coding) = accepted
-written_told (written.Refused q) = refused q
-
-pub write-verdict : (service : Service) (r : Reading) (t : List ℕ) (room : ℕ) (a : MessageWritten) → a ≡ write_answers service r t room → verdict (write_rules service r t room) ≡ written_told a
+pub write-verdict : (service : Service) (r : Reading) (t : List ℕ) (room : ℕ) (a : Result MessageWritten Refusal) → a ≡ write_answers service r t room → verdict (write_rules service r t room) ≡ verdict_of a
 unfolding write_answers
 write-verdict service r t room a e =
-    settle-told written_told written.Refused (written.Done (length (message_octets service r t)) (message_count service r t) (smallest service r)) (λ q. refl) refl (verdict (write_rules service r t room)) a e
+    settle-told verdict_of Err (ok_message_written (length (message_octets service r t)) (message_count service r t) (smallest service r)) (λ q. refl) refl (verdict (write_rules service r t room)) a e
 
 module _ (service : Service) (r : Reading) (t : List ℕ) where
   size-accepts : (room : ℕ) → Writable service r t room → verdict (size_rules service r t room) ≡ accepted
@@ -63,21 +60,21 @@ module _ (service : Service) (r : Reading) (t : List ℕ) where
   unfolding write_rules
   rules-accept room w =
       let k = coding-complete service r w.octet.0 w.new w.plain w.octet.1.0 w.octet.1.1 in
-      accepted-both (coding_rules service r) (mark_rules service r ++ size_rules service r t room) (coding-verdict service r (octet-written.Done k.0) (sym k.1))
+      accepted-both (coding_rules service r) (mark_rules service r ++ size_rules service r t room) (coding-verdict service r (Ok k.0) (sym k.1))
       (accepted-both (mark_rules service r) (size_rules service r t room) (ap verdict (mark-rules service r (unmarked service r w.holds.unmarked)) ∙ text-accepts service r w.holds) (size-accepts room w))
 
   pub write-accepts : (out : List ℕ) → Writable service r t (length out)
-      → (write_answers service r t (length out) ≡ written.Done (length (message_octets service r t)) (message_count service r t) (smallest service r))
+      → (write_answers service r t (length out) ≡ ok_message_written (length (message_octets service r t)) (message_count service r t) (smallest service r))
       × (write_leaves service r t out ≡ laid (message_octets service r t) out)
   unfolding write_answers write_leaves
-  write-accepts out w = (settle-given _ written.Refused _ (rules-accept (length out) w), settle-given _ (λ q. out) _ (rules-accept (length out) w))
+  write-accepts out w = (settle-given _ Err _ (rules-accept (length out) w), settle-given _ (λ q. out) _ (rules-accept (length out) w))
 
-  pub write-accepted : (room octets count coding : ℕ) → is_lettered service r ≡ false → write_answers service r t room ≡ written.Done octets count coding → Writable service r t room
+  pub write-accepted : (room octets count coding : ℕ) → is_lettered service r ≡ false → write_answers service r t room ≡ ok_message_written octets count coding → Writable service r t room
   unfolding write_rules text_size_rules coding_writes
   write-accepted room octets count coding l e =
-      let v = accepted-parts (coding_rules service r) (mark_rules service r ++ size_rules service r t room) (write-verdict service r t room (written.Done octets count coding) (sym e)) in
+      let v = accepted-parts (coding_rules service r) (mark_rules service r ++ size_rules service r t room) (write-verdict service r t room (ok_message_written octets count coding) (sym e)) in
       let w = accepted-parts (mark_rules service r) (size_rules service r t room) v.1 in
-      let c : coding_writes service r ≡ octet-written.Done (smallest service r) = settle-given (verdict (coding_rules service r)) octet-written.Refused (octet-written.Done (smallest service r)) v.0 in
+      let c : coding_writes service r ≡ Ok (smallest service r) = settle-given (verdict (coding_rules service r)) Err (Ok (smallest service r)) v.0 in
       let s = settled service r (smallest service r) (coding-written service r (smallest service r) c).1 in
       let h = text-accepted service r (ap verdict (sym (mark-rules service r l)) ∙ w.0) in
       let ucs2 = is_ucs2 r.alphabet in
@@ -96,14 +93,10 @@ module _ (service : Service) (r : Reading) (t : List ℕ) where
 
 -- ---- the reader
 
-abbrev read_told : MessageRead → Verdict
-read_told (read.Done units reading) = accepted
-read_told (read.Refused q) = refused q
-
-pub read-verdict : (service : Service) (coding count : ℕ) (o : List ℕ) (room : ℕ) (a : MessageRead) → a ≡ read_answers service coding count o room → verdict (read_rules service coding count o room) ≡ read_told a
+pub read-verdict : (service : Service) (coding count : ℕ) (o : List ℕ) (room : ℕ) (a : Result MessageRead Refusal) → a ≡ read_answers service coding count o room → verdict (read_rules service coding count o room) ≡ verdict_of a
 unfolding read_answers
 read-verdict service coding count o room a e =
-    settle-told read_told read.Refused (read.Done (length (text_of_message service (read_under service coding) count o)) (reading_of_message service (read_under service coding) o)) (λ q. refl) refl (verdict (read_rules service coding count o room)) a e
+    settle-told verdict_of Err (ok_message_read (length (text_of_message service (read_under service coding) count o)) (reading_of_message service (read_under service coding) o)) (λ q. refl) refl (verdict (read_rules service coding count o room)) a e
 
 module _ (service : Service) (coding count : ℕ) (o : List ℕ) (r : Reading) where
   length-accepts : (room : ℕ) → Readable service coding count o room r → verdict (length_rules service r count o room) ≡ accepted
@@ -116,34 +109,34 @@ module _ (service : Service) (coding count : ℕ) (o : List ℕ) (r : Reading) w
   unfolding read_rules
   all-accept room w =
       let same : read_under service coding ≡ r = read-given service coding r (sym w.reads) in
-      accepted-both (octet_rules service coding) (heard_rules service (read_under service coding) ++ length_rules service (read_under service coding) count o room) (octet-verdict service coding (octet-read.Done r) (sym w.reads))
+      accepted-both (octet_rules service coding) (heard_rules service (read_under service coding) ++ length_rules service (read_under service coding) count o room) (octet-verdict service coding (Ok r) (sym w.reads))
       (ap (λ (x : Reading). verdict (heard_rules service x ++ length_rules service x count o room)) same
       ∙ accepted-both (heard_rules service r) (length_rules service r count o room) (ap verdict (heard-rules service r (unmarked service r w.holds.unmarked)) ∙ text-accepts service r w.holds) (length-accepts room w))
 
   pub read-accepts : (out : List ℕ) → Readable service coding count o (length out) r
-      → (read_answers service coding count o (length out) ≡ read.Done (length (text_of_message service r count o)) r)
+      → (read_answers service coding count o (length out) ≡ ok_message_read (length (text_of_message service r count o)) r)
       × (read_leaves service coding count o out ≡ laid (text_of_message service r count o) out)
   unfolding read_answers read_leaves
   read-accepts out w =
       let same : read_under service coding ≡ r = read-given service coding r (sym w.reads) in (
-        settle-given _ read.Refused _ (all-accept (length out) w)
-            ∙ ap (λ (x : Reading). read.Done (length (text_of_message service x count o)) (reading_of_message service x o)) same
-            ∙ ap (λ (x : Reading). read.Done (length (text_of_message service r count o)) x) (reading-same service r (unmarked service r w.holds.unmarked) o),
+        settle-given _ Err _ (all-accept (length out) w)
+            ∙ ap (λ (x : Reading). ok_message_read (length (text_of_message service x count o)) (reading_of_message service x o)) same
+            ∙ ap (λ (x : Reading). ok_message_read (length (text_of_message service r count o)) x) (reading-same service r (unmarked service r w.holds.unmarked) o),
         settle-given _ (λ q. out) _ (all-accept (length out) w) ∙ ap (λ (x : Reading). laid (text_of_message service x count o) out) same,
       )
 
 pub read-accepted : (service : Service) (coding count : ℕ) (o : List ℕ) (room units : ℕ) (r : Reading) → is_lettered service (read_under service coding) ≡ false
-    → read_answers service coding count o room ≡ read.Done units r → Readable service coding count o room (read_under service coding)
+    → read_answers service coding count o room ≡ ok_message_read units r → Readable service coding count o room (read_under service coding)
 unfolding read_rules text_length_rules octet_reads
 read-accepted service coding count o room units r l e =
     let x : Reading = read_under service coding in
     let held : List ℕ = held_text service (is_ucs2 x.alphabet) count o in
-    let v = accepted-parts (octet_rules service coding) (heard_rules service x ++ length_rules service x count o room) (read-verdict service coding count o room (read.Done units r) (sym e)) in
+    let v = accepted-parts (octet_rules service coding) (heard_rules service x ++ length_rules service x count o room) (read-verdict service coding count o room (ok_message_read units r) (sym e)) in
     let w = accepted-parts (heard_rules service x) (length_rules service x count o room) v.1 in
     let four = accepted-rule (not (fits_reading service x (length o) count)) WrongLength (when (ltb room (length held)) NoRoom ∷ []) (ap verdict (sym (length-rules service x l count o room)) ∙ w.1) in
     let seven = accepted-rule (ltb room (length held)) NoRoom [] four.1 in
     record {
-      reads = settle-given (verdict (octet_rules service coding)) octet-read.Refused (octet-read.Done x) v.0;
+      reads = settle-given (verdict (octet_rules service coding)) Err (Ok x) v.0;
       holds = text-accepted service x (ap verdict (sym (heard-rules service x l)) ∙ w.0);
       sized = fitting (fits_reading service x (length o) count) four.0;
       fits = subst (λ (y : List ℕ). length y ≤ room) (sym (text_same service x l count o)) (ltb-false _ _ seven.0);

@@ -15,10 +15,6 @@ use Rattle.lists.proofs.Tests.{both}
 use Rattle.coding.specs.declared.Reading.{Reading}
 use Rattle.fields.specs.declared.Alphabet.TheVariants.{EightBit}
 use Rattle.fields.specs.declared.Class.TheVariants.{Class1}
-use Rattle.coding.specs.declared.OctetRead.{OctetRead}
-use Rattle.coding.specs.declared.OctetRead.TheVariants as octet-read
-use Rattle.coding.specs.declared.OctetWritten.{OctetWritten}
-use Rattle.coding.specs.declared.OctetWritten.TheVariants as octet-written
 use Rattle.coding.specs.Readings.{unmentioned, reserved_reading, with_alphabet, with_class}
 use Rattle.coding.specs.OctetRead.{class_in, discard_in, store_in, general_reading, notice_reading, last_reading, read_short, read_page, octet_rules, octet_reads}
 use Rattle.coding.specs.OctetWritten.{same_coding, smallest, octet_writes, write_rules as alone_rules}
@@ -34,11 +30,11 @@ use Rattle.stream.specs.Pages.{page, page_octets}
 use Rattle.lettered.proofs.Examples.{times}
 pub use Rattle.lettered.proofs.Examples.{same}
 use Rattle.demands.specs.declared.MessageRead.{MessageRead}
-use Rattle.demands.specs.declared.MessageRead.TheVariants as read
 use Rattle.demands.specs.declared.MessageWritten.{MessageWritten}
-use Rattle.demands.specs.declared.MessageWritten.TheVariants as written
 use Rattle.demands.specs.MessageRead.{text_length_rules, read_rules, read_answers, read_leaves}
 use Rattle.demands.specs.MessageWritten.{text_size_rules, write_rules, write_answers, write_leaves}
+use Rattle.std.specs.Prelude.{Result, Ok, Err}
+use Rattle.words.specs.declared.Refusal.{Refusal}
 
 -- writing the text as plain 7-bit gives these octets and this count; reading the octets gives the text; septets read as the text;
 -- an octet of a short message reads as the reading; a reading is written as the octet
@@ -53,21 +49,21 @@ pub data Case : Type 0 where
 abbrev lent : List ℕ
 lent = replicate 200 0xff
 
-wrote : MessageWritten → List ℕ → List ℕ → ℕ → Bool
-wrote (written.Done n c coding) left octets count = both (both (eqb n (length octets)) (eqb c count)) (same left (laid octets lent))
-wrote (written.Refused q) left octets count = false
+wrote : Result MessageWritten Refusal → List ℕ → List ℕ → ℕ → Bool
+wrote (Ok m) left octets count = both (both (eqb m.octets (length octets)) (eqb m.count count)) (same left (laid octets lent))
+wrote (Err q) left octets count = false
 
-was : MessageRead → List ℕ → List ℕ → Bool
-was (read.Done n r) left text = both (eqb n (length text)) (same left (laid text lent))
-was (read.Refused q) left text = false
+was : Result MessageRead Refusal → List ℕ → List ℕ → Bool
+was (Ok m) left text = both (eqb m.units (length text)) (same left (laid text lent))
+was (Err q) left text = false
 
-said : OctetRead → Reading → Bool
-said (octet-read.Done x) r = same_coding x r
-said (octet-read.Refused q) r = false
+said : Result Reading Refusal → Reading → Bool
+said (Ok x) r = same_coding x r
+said (Err q) r = false
 
-coded : OctetWritten → ℕ → Bool
-coded (octet-written.Done o) n = eqb o n
-coded (octet-written.Refused q) n = false
+coded : Result ℕ Refusal → ℕ → Bool
+coded (Ok o) n = eqb o n
+coded (Err q) n = false
 
 pub holds : Case → Bool
 holds (writes service text octets count) = wrote (write_answers service unmentioned text 200) (write_leaves service unmentioned text lent) octets count

@@ -22,21 +22,22 @@ use Rattle.lists.specs.Lists.{laid}
 use Rattle.lists.specs.Closing.{without_closing}
 use Rattle.words.proofs.Numbers.{number-above-0}
 use Rattle.coding.specs.declared.Reading.{Reading}
-use Rattle.coding.specs.declared.OctetRead.TheVariants as octet-read
 use Rattle.coding.specs.OctetRead.{octet_reads}
 use Rattle.coding.specs.OctetWritten.{smallest}
 use Rattle.coding.specs.LanguageLetters.{is_lettered}
 use Rattle.coding.specs.Holding.{is_ucs2}
 use Rattle.coding.specs.Answers.{read_reading}
-use Rattle.demands.specs.declared.MessageRead.TheVariants as read
 use Rattle.demands.specs.declared.MessageWritten.{MessageWritten}
-use Rattle.demands.specs.declared.MessageWritten.TheVariants as written
 use Rattle.demands.specs.MessageRead.{fits_reading, text_of_message}
 use Rattle.demands.specs.MessageWritten.{message_octets, message_count, write_answers}
 use Rattle.demands.specs.Reports.{write_number, write_written, write_count, write_coding}
 use Rattle.demands.specs.Demands.{Writable, Accepted, sent, sent_count, sent_coding, Comes, FilledByCr, OneCrMore}
 use Rattle.demands.proofs.Accepting.{write-accepts, write-accepted, read-accepts}
 use Rattle.demands.proofs.Octets as octets
+use Rattle.std.specs.Prelude.{Result, Ok, Err}
+use Rattle.words.specs.declared.Refusal.{Refusal}
+use Rattle.demands.specs.Successes.{ok_message_written}
+use Rattle.demands.specs.Successes.{ok_message_read}
 
 -- ---- what a call that accepted its text has sent
 
@@ -48,9 +49,9 @@ module _ (service : Service) (r : Reading) (t out : List ℕ) (l : is_lettered s
   pub accepted-writable : Writable service r t (length out)
   accepted-writable = go (write_answers service r t (length out)) refl a
     where
-      go : (x : MessageWritten) → write_answers service r t (length out) ≡ x → write_number x ≡ 0 → Writable service r t (length out)
-      go (written.Done o c k) e z = write-accepted service r t (length out) o c k l e
-      go (written.Refused q) e z = absurd (omega (arith, number-above-0 q))
+      go : (x : Result MessageWritten Refusal) → write_answers service r t (length out) ≡ x → write_number x ≡ 0 → Writable service r t (length out)
+      go (Ok w) e z = write-accepted service r t (length out) w.octets w.count w.coding l e
+      go (Err q) e z = absurd (omega (arith, number-above-0 q))
 
   pub sent-octets : sent service r t out ≡ message_octets service r t
   sent-octets =
@@ -64,7 +65,7 @@ module _ (service : Service) (r : Reading) (t out : List ℕ) (l : is_lettered s
   sent-coding = ap write_coding (write-accepts service r t out accepted-writable).0
 
   -- the octet that is written reads as the reading
-  pub sent-reads : octet_reads service (sent_coding service r t out) ≡ octet-read.Done r
+  pub sent-reads : octet_reads service (sent_coding service r t out) ≡ Ok r
   sent-reads = ap (octet_reads service) sent-coding ∙ (octets.write-reads service r t (length out) accepted-writable).0
 
   -- what is read back, by the text that the octets hold
@@ -79,7 +80,7 @@ module _ (service : Service) (r : Reading) (t out : List ℕ) (l : is_lettered s
         sized = ap₂ (λ (o : List ℕ) (n : ℕ). fits_reading service r (length o) n) sent-octets sent-count ∙ (octets.write-reads service r t (length out) accepted-writable).1;
         fits = subst (λ (l : List ℕ). length l ≤ length back) (sym held) room;
       } in
-      (w.0 ∙ ap (λ (l : List ℕ). read.Done (length l) r) held, w.1 ∙ ap (λ (l : List ℕ). laid l back) held)
+      (w.0 ∙ ap (λ (l : List ℕ). ok_message_read (length l) r) held, w.1 ∙ ap (λ (l : List ℕ). laid l back) held)
 
 pub coding-same : (service : Service) (r s : Reading) (t u out lent : List ℕ) → is_lettered service r ≡ false → is_lettered service s ≡ false
     → Accepted service r t out → Accepted service s u lent → sent_coding service r t out ≡ sent_coding service s u lent → r ≡ s

@@ -22,16 +22,11 @@ use Rattle.words.specs.declared.Service.{Service}
 use Rattle.words.specs.declared.Service.TheVariants.{ShortMessage, Broadcast, Ussd, OldPage}
 use Rattle.words.specs.declared.Refusal.{Refusal}
 use Rattle.words.specs.declared.Refusal.TheVariants.{WrongLetters}
-use Rattle.words.specs.declared.Filled.{Filled}
-use Rattle.words.specs.declared.Filled.TheVariants as filled
 use Rattle.words.specs.Judging.{Rule, refused, accepted, verdict}
 use Rattle.words.proofs.Judging.{accepted-parts, settle-given}
 use Rattle.words.proofs.Numbers.{number-above-0}
 use Rattle.fields.specs.Letters.{are_letters}
 use Rattle.coding.specs.declared.Reading.{Reading}
-use Rattle.coding.specs.declared.OctetRead.TheVariants as octet-read
-use Rattle.coding.specs.declared.OctetWritten.{OctetWritten}
-use Rattle.coding.specs.declared.OctetWritten.TheVariants as octet-written
 use Rattle.coding.specs.Readings.{without_letters}
 use Rattle.coding.specs.OctetRead.{octet_rules, read_under, octet_reads}
 use Rattle.coding.specs.OctetWritten.{smallest, octet_writes, write_rules as alone_rules}
@@ -41,14 +36,11 @@ use Rattle.coding.specs.Answers.{read_reading}
 use Rattle.coding.proofs.TextOctet.{coding-written, coding-bare}
 use Rattle.coding.proofs.Theorems.{settled, reads_all, write_read, write-complete}
 use Rattle.lettered.specs.declared.LetteredRead.{LetteredRead}
-use Rattle.lettered.specs.declared.LetteredRead.TheVariants as lettered
 use Rattle.lettered.specs.LetteredPage.{lettered_octets, lettered_writes, letters_in, wrong_letters, lettered_text, lettered_reads}
-use Rattle.words.proofs.Rules.{gives, given-not}
+use Rattle.words.proofs.Rules.{gives, given-not, ok-inside, err-inside, ok-or-err}
 use Rattle.lettered.proofs.Theorems.{WritablePage, ReadablePage, lettered-length, write-accepts-iff, write-leaves, write-refuses-letters-iff, read-accepts-iff, read-refuses-letters-iff, lettered-written-read}
 use Rattle.lettered.proofs.Theorems as page
-use Rattle.demands.specs.declared.MessageRead.TheVariants as read
 use Rattle.demands.specs.declared.MessageWritten.{MessageWritten}
-use Rattle.demands.specs.declared.MessageWritten.TheVariants as written
 use Rattle.demands.specs.MessageRead.{text_length_rules, lettered_as, page_reads, read_rules, read_answers, read_leaves}
 use Rattle.demands.specs.MessageWritten.{text_size_rules, size_rules, mark_rules, page_as, write_rules, write_answers, write_leaves}
 use Rattle.demands.specs.Reports.{write_number, write_written, write_count, write_coding, read_number}
@@ -59,20 +51,23 @@ use Rattle.coding.proofs.Prefixed.{lettered-octets}
 use Rattle.demands.proofs.LetteredSteps.{lettered-reads, lettered-writes}
 use Rattle.demands.proofs.Steps.{coding-verdict, write-refused}
 use Rattle.demands.proofs.Unlettered.{mark-rules, size-rules, heard-rules, length-rules}
+use Rattle.std.specs.Prelude.{Result, Ok, Err}
+use Rattle.demands.specs.Successes.{ok_message_written}
+use Rattle.demands.specs.Successes.{ok_message_read}
 
 -- ---- an answer, and the answer of the page that it was made of
 
-written-filled : (coding : ℕ) (a : Filled) (o c k : ℕ) → page_as coding a ≡ written.Done o c k → a ≡ filled.Done o
-written-filled coding (filled.Done n) o c k e = let f : n ≡ o = cc in ap filled.Done f
-written-filled coding (filled.Refused q) o c k e = let z : ◌≡◌ {A = ℕ} 0 1 = cc in absurd (omega arith)
+written-filled : (coding : ℕ) (a : Result ℕ Refusal) (o c k : ℕ) → page_as coding a ≡ ok_message_written o c k → a ≡ Ok o
+written-filled coding (Ok n) o c k e = ap (λ (m : MessageWritten). Ok m.octets) (ok-inside e)
+written-filled coding (Err q) o c k e = absurd (ok-or-err (sym e))
 
-refused-filled : (coding : ℕ) (a : Filled) (q : Refusal) → page_as coding a ≡ written.Refused q → a ≡ filled.Refused q
-refused-filled coding (filled.Done n) q e = let z : ◌≡◌ {A = ℕ} 0 1 = cc in absurd (omega arith)
-refused-filled coding (filled.Refused p) q e = let f : p ≡ q = cc in ap filled.Refused f
+refused-filled : (coding : ℕ) (a : Result ℕ Refusal) (q : Refusal) → page_as coding a ≡ Err q → a ≡ Err q
+refused-filled coding (Ok n) q e = let z : ◌≡◌ {A = ℕ} 0 1 = cc in absurd (omega arith)
+refused-filled coding (Err p) q e = let f : p ≡ q = cc in ap Err f
 
-refused-lettered : (r : Reading) (a : LetteredRead) (q : Refusal) → lettered_as r a ≡ read.Refused q → a ≡ lettered.Refused q
-refused-lettered r (lettered.Done n l) q e = let z : ◌≡◌ {A = ℕ} 0 1 = cc in absurd (omega arith)
-refused-lettered r (lettered.Refused p) q e = let f : p ≡ q = cc in ap lettered.Refused f
+refused-lettered : (r : Reading) (a : Result LetteredRead Refusal) (q : Refusal) → lettered_as r a ≡ Err q → a ≡ Err q
+refused-lettered r (Ok m) q e = let z : ◌≡◌ {A = ℕ} 0 1 = cc in absurd (omega arith)
+refused-lettered r (Err p) q e = let f : p ≡ q = cc in ap Err f
 
 -- ---- the writer
 
@@ -84,10 +79,10 @@ unstray Ussd r e = absurd (false≢true e)
 unstray OldPage r e = absurd (false≢true e)
 
 -- the coding octet of an accepted message is written
-octet-of : (s : Service) (r : Reading) (t : List ℕ) (room : ℕ) → verdict (write_rules s r t room) ≡ accepted → coding_writes s r ≡ octet-written.Done (smallest s r)
+octet-of : (s : Service) (r : Reading) (t : List ℕ) (room : ℕ) → verdict (write_rules s r t room) ≡ accepted → coding_writes s r ≡ Ok (smallest s r)
 unfolding write_rules coding_writes
 octet-of s r t room e =
-    settle-given (verdict (coding_rules s r)) octet-written.Refused (octet-written.Done (smallest s r)) (accepted-parts (coding_rules s r) (mark_rules s r ++ size_rules s r t room) e).0
+    settle-given (verdict (coding_rules s r)) Err (Ok (smallest s r)) (accepted-parts (coding_rules s r) (mark_rules s r ++ size_rules s r t room) e).0
 
 module _ (r : Reading) (t out : List ℕ) (mark : r.prefix ≡ true) where
   abbrev ucs2 : Bool
@@ -95,23 +90,23 @@ module _ (r : Reading) (t out : List ℕ) (mark : r.prefix ≡ true) where
 
   -- the page that an accepted text is
   pub record Sent : Type 0 where
-    pub coding : coding_writes Broadcast r ≡ octet-written.Done (smallest Broadcast r)
+    pub coding : coding_writes Broadcast r ≡ Ok (smallest Broadcast r)
     pub page : WritablePage ucs2 r.letters t
     pub room : 82 ≤ length out
 
   pub accepted-page : Accepted Broadcast r t out → Sent
   accepted-page a = go (write_answers Broadcast r t (length out)) refl a
     where
-      go : (x : MessageWritten) → write_answers Broadcast r t (length out) ≡ x → write_number x ≡ 0 → Sent
-      go (written.Done o c k) e z =
-          let w = octet-of Broadcast r t (length out) (write-verdict Broadcast r t (length out) (written.Done o c k) (sym e)) in
+      go : (x : Result MessageWritten Refusal) → write_answers Broadcast r t (length out) ≡ x → write_number x ≡ 0 → Sent
+      go (Ok m) e z =
+          let w = octet-of Broadcast r t (length out) (write-verdict Broadcast r t (length out) (Ok m) (sym e)) in
           let p = (lettered-writes Broadcast r (smallest Broadcast r) t out (sym w) mark).0 ∙ e in
-          let f = (write-accepts-iff ucs2 r.letters t (length out) o).0 (written-filled (smallest Broadcast r) (lettered_writes ucs2 r.letters t (length out)) o c k p) in
+          let f = (write-accepts-iff ucs2 r.letters t (length out) m.octets).0 (written-filled (smallest Broadcast r) (lettered_writes ucs2 r.letters t (length out)) m.octets m.count m.coding p) in
           record { coding = w; page = f.0; room = f.1 }
-      go (written.Refused q) e z = absurd (omega (arith, number-above-0 q))
+      go (Err q) e z = absurd (omega (arith, number-above-0 q))
 
   module _ (s : Sent) where
-    answered : write_answers Broadcast r t (length out) ≡ written.Done 82 0 (smallest Broadcast r)
+    answered : write_answers Broadcast r t (length out) ≡ ok_message_written 82 0 (smallest Broadcast r)
     answered =
         sym (lettered-writes Broadcast r (smallest Broadcast r) t out (sym s.coding) mark).0
         ∙ ap (page_as (smallest Broadcast r)) ((write-accepts-iff ucs2 r.letters t (length out) 82).1 (s.page, s.room, refl))
@@ -121,8 +116,8 @@ module _ (r : Reading) (t out : List ℕ) (mark : r.prefix ≡ true) where
         let left : write_leaves Broadcast r t out ≡ laid (lettered_octets ucs2 r.letters t) out = sym (lettered-writes Broadcast r (smallest Broadcast r) t out (sym s.coding) mark).1 ∙ write-leaves ucs2 r.letters t out s.page s.room in
         ap₂ take (ap write_written answered ∙ sym (lettered-length ucs2 r.letters t s.page.sized)) left ∙ take-laid (lettered_octets ucs2 r.letters t) out
 
-    pub sent-reads-page : octet_reads Broadcast (sent_coding Broadcast r t out) ≡ octet-read.Done (without_letters r)
-    sent-reads-page = ap (λ (a : MessageWritten). octet_reads Broadcast (write_coding a)) answered ∙ write_read Broadcast r (smallest Broadcast r) (coding-written Broadcast r (smallest Broadcast r) s.coding).1
+    pub sent-reads-page : octet_reads Broadcast (sent_coding Broadcast r t out) ≡ Ok (without_letters r)
+    sent-reads-page = ap (λ (a : Result MessageWritten Refusal). octet_reads Broadcast (write_coding a)) answered ∙ write_read Broadcast r (smallest Broadcast r) (coding-written Broadcast r (smallest Broadcast r) s.coding).1
 
   pub write-lettered-iff : (Accepted Broadcast r t out) ↔ LetteredWritable r t (length out)
   write-lettered-iff = (to, from)
@@ -150,7 +145,7 @@ module _ (r : Reading) (t out : List ℕ) (mark : r.prefix ≡ true) where
           ap write_number
           (answered
           record {
-            coding = c ∙ ap octet-written.Done (sym first);
+            coding = c ∙ ap Ok (sym first);
             page = record { letters = w.letters; codable = w.codable; sized = w.sized };
             room = w.fits;
           })
@@ -179,7 +174,7 @@ lettered-same-iff r s t u out lent p q a b e =
 -- octets are read into a lent buffer as this reading and text
 abbrev Came : Reading → List ℕ → List ℕ → ℕ → ℕ → List ℕ → Type 0
 Came r text back coding count o =
-    (read_answers Broadcast coding count o (length back) ≡ read.Done (length text) r) × (read_leaves Broadcast coding count o back ≡ laid text back)
+    (read_answers Broadcast coding count o (length back) ≡ ok_message_read (length text) r) × (read_leaves Broadcast coding count o back ≡ laid text back)
 
 pub lettered-back : (r : Reading) (t out : List ℕ) → r.prefix ≡ true → Accepted Broadcast r t out
     → Comes Broadcast (sent_coding Broadcast r t out) (sent_count Broadcast r t out) (sent Broadcast r t out) r (without_closing 0x000d t)
@@ -197,9 +192,6 @@ lettered-back r t out mark a back room =
     (subst (λ (x : ℕ). Came r (without_closing 0x000d t) back x 0 octets) (sym (ap write_coding d)) given))
 
 -- ---- refusal 11 on writing
-
-same-refusal : (q p : Refusal) → written.Refused q ≡ written.Refused p → q ≡ p
-same-refusal q p e = cc
 
 -- the coding octet's own rules give no 11
 coding-not-11 : (s : Service) (r : Reading) (rest : List Rule) → gives 11 rest ≡ false → gives 11 (coding_rules s r ++ rest) ≡ false
@@ -219,28 +211,28 @@ plain-not-11 s r t room l e =
     (ap₂ (λ (a b : List Rule). verdict (coding_rules s r ++ (a ++ b))) (sym (mark-rules s r l)) (sym (size-rules s r l t room)) ∙ e)
 
 pub write-refuses-11-iff : (s : Service) (r : Reading) (t out : List ℕ)
-    → (write_answers s r t (length out) ≡ written.Refused WrongLetters)
-    ↔ ((is_lettered s r ≡ true) × (((o : ℕ) × (octet_writes s r ≡ octet-written.Done o)) × (are_letters r.letters ≡ false)))
+    → (write_answers s r t (length out) ≡ Err WrongLetters)
+    ↔ ((is_lettered s r ≡ true) × (((o : ℕ) × (octet_writes s r ≡ Ok o)) × (are_letters r.letters ≡ false)))
 write-refuses-11-iff s r t out = (to, from)
   where
     ucs2 : Bool
     ucs2 = is_ucs2 r.alphabet
 
-    to : write_answers s r t (length out) ≡ written.Refused WrongLetters → (is_lettered s r ≡ true) × (((o : ℕ) × (octet_writes s r ≡ octet-written.Done o)) × (are_letters r.letters ≡ false))
+    to : write_answers s r t (length out) ≡ Err WrongLetters → (is_lettered s r ≡ true) × (((o : ℕ) × (octet_writes s r ≡ Ok o)) × (are_letters r.letters ≡ false))
     to e = by (is_lettered s r) refl (coding_writes s r) refl
       where
         told : verdict (write_rules s r t (length out)) ≡ refused WrongLetters
-        told = write-verdict s r t (length out) (written.Refused WrongLetters) (sym e)
+        told = write-verdict s r t (length out) (Err WrongLetters) (sym e)
 
-        by : (b : Bool) → is_lettered s r ≡ b → (w : OctetWritten) → coding_writes s r ≡ w → (is_lettered s r ≡ true) × (((o : ℕ) × (octet_writes s r ≡ octet-written.Done o)) × (are_letters r.letters ≡ false))
+        by : (b : Bool) → is_lettered s r ≡ b → (w : Result ℕ Refusal) → coding_writes s r ≡ w → (is_lettered s r ≡ true) × (((o : ℕ) × (octet_writes s r ≡ Ok o)) × (are_letters r.letters ≡ false))
         by false l w c = absurd (plain-not-11 s r t (length out) l told)
-        by true l (octet-written.Done o) c =
+        by true l (Ok o) c =
             let p = (lettered-writes s r o t out (sym c) l).0 ∙ e in
             (l, ((o, (coding-written s r o c).1), (write-refuses-letters-iff ucs2 r.letters t (length out)).0 (refused-filled o (lettered_writes ucs2 r.letters t (length out)) WrongLetters p)))
-        by true l (octet-written.Refused q) c =
-            absurd (octet-not-11 s r (coding-verdict s r (octet-written.Refused q) (sym c) ∙ ap refused (same-refusal q WrongLetters ((write-refused s r t out q (sym c)).0 ∙ e))))
+        by true l (Err q) c =
+            absurd (octet-not-11 s r (coding-verdict s r (Err q) (sym c) ∙ ap refused (err-inside ((write-refused s r t out q (sym c)).0 ∙ e))))
 
-    from : (is_lettered s r ≡ true) × (((o : ℕ) × (octet_writes s r ≡ octet-written.Done o)) × (are_letters r.letters ≡ false)) → write_answers s r t (length out) ≡ written.Refused WrongLetters
+    from : (is_lettered s r ≡ true) × (((o : ℕ) × (octet_writes s r ≡ Ok o)) × (are_letters r.letters ≡ false)) → write_answers s r t (length out) ≡ Err WrongLetters
     from h =
         let o = h.1.0.0 in
         let c = coding-bare s r (unstray s r h.0) ∙ h.1.0.1 in
@@ -249,7 +241,7 @@ write-refuses-11-iff s r t out = (to, from)
 -- ---- the reader
 
 -- a service whose message may begin with letters refuses no octet
-lettered-octet : (s : Service) (coding : ℕ) → is_lettered s (read_under s coding) ≡ true → octet_reads s coding ≡ octet-read.Done (read_under s coding)
+lettered-octet : (s : Service) (coding : ℕ) → is_lettered s (read_under s coding) ≡ true → octet_reads s coding ≡ Ok (read_under s coding)
 lettered-octet ShortMessage coding e = absurd (false≢true e)
 lettered-octet Broadcast coding e = reads_all Broadcast coding refl
 lettered-octet Ussd coding e = absurd (false≢true e)
@@ -274,20 +266,20 @@ module _ (coding count : ℕ) (o out : List ℕ) (octet : coding < 256) where
   ucs2_under s = is_ucs2 (read_under s coding).alphabet
 
   pub read-refuses-11-iff : (s : Service)
-      → (read_answers s coding count o (length out) ≡ read.Refused WrongLetters)
+      → (read_answers s coding count o (length out) ≡ Err WrongLetters)
       ↔ ((is_lettered s (read_under s coding) ≡ true) × ((length o ≡ 82) × (count ≡ 0) × (wrong_letters (ucs2_under s) o ≡ true)))
   read-refuses-11-iff s = (λ e. by e (is_lettered s (read_under s coding)) refl, from)
     where
       page-answer : is_lettered s (read_under s coding) ≡ true → page_reads (read_under s coding) count o (length out) ≡ read_answers s coding count o (length out)
       page-answer l = (lettered-reads s coding count o out (read_under s coding) octet (sym (lettered-octet s coding l)) l).0
 
-      by : read_answers s coding count o (length out) ≡ read.Refused WrongLetters → (b : Bool) → is_lettered s (read_under s coding) ≡ b
+      by : read_answers s coding count o (length out) ≡ Err WrongLetters → (b : Bool) → is_lettered s (read_under s coding) ≡ b
           → (is_lettered s (read_under s coding) ≡ true) × ((length o ≡ 82) × (count ≡ 0) × (wrong_letters (ucs2_under s) o ≡ true))
-      by e false l = absurd (heard-not-11 s coding count o (length out) l (read-verdict s coding count o (length out) (read.Refused WrongLetters) (sym e)))
+      by e false l = absurd (heard-not-11 s coding count o (length out) l (read-verdict s coding count o (length out) (Err WrongLetters) (sym e)))
       by e true l =
           (l, (read-refuses-letters-iff (ucs2_under s) count o (length out)).0 (refused-lettered (read_under s coding) (lettered_reads (ucs2_under s) count o (length out)) WrongLetters (page-answer l ∙ e)))
 
-      from : (is_lettered s (read_under s coding) ≡ true) × ((length o ≡ 82) × (count ≡ 0) × (wrong_letters (ucs2_under s) o ≡ true)) → read_answers s coding count o (length out) ≡ read.Refused WrongLetters
+      from : (is_lettered s (read_under s coding) ≡ true) × ((length o ≡ 82) × (count ≡ 0) × (wrong_letters (ucs2_under s) o ≡ true)) → read_answers s coding count o (length out) ≡ Err WrongLetters
       from h = sym (page-answer h.0) ∙ ap (lettered_as (read_under s coding)) ((read-refuses-letters-iff (ucs2_under s) count o (length out)).1 h.1)
 
   pub read-lettered-iff : (coding ≡ 0b0001_0000) ⊎ (coding ≡ 0b0001_0001) → (read_number (read_answers Broadcast coding count o (length out)) ≡ 0) ↔ LetteredReadable coding count o (length out)
@@ -299,11 +291,11 @@ module _ (coding count : ℕ) (o out : List ℕ) (octet : coding < 256) where
       page-answer : page_reads (read_under Broadcast coding) count o (length out) ≡ read_answers Broadcast coding count o (length out)
       page-answer = let l = (lettered-octets coding octet).1 mark in (lettered-reads Broadcast coding count o out (read_under Broadcast coding) octet (sym (lettered-octet Broadcast coding l)) l).0
 
-      by : (x : LetteredRead) → lettered_reads ucs2 count o (length out) ≡ x → read_number (lettered_as (read_under Broadcast coding) (lettered_reads ucs2 count o (length out))) ≡ 0 → LetteredReadable coding count o (length out)
-      by (lettered.Done n l) e z =
-          let w = ((read-accepts-iff ucs2 count o (length out) n l).0 e).0 in
+      by : (x : Result LetteredRead Refusal) → lettered_reads ucs2 count o (length out) ≡ x → read_number (lettered_as (read_under Broadcast coding) (lettered_reads ucs2 count o (length out))) ≡ 0 → LetteredReadable coding count o (length out)
+      by (Ok m) e z =
+          let w = ((read-accepts-iff ucs2 count o (length out) m.units m.letters).0 e).0 in
           record { mark = mark; whole = w.whole; uncounted = w.uncounted; right = w.right; fits = w.fits }
-      by (lettered.Refused q) e z = absurd (omega (arith, number-above-0 q, ap (λ (x : LetteredRead). read_number (lettered_as (read_under Broadcast coding) x)) e))
+      by (Err q) e z = absurd (omega (arith, number-above-0 q, ap (λ (x : Result LetteredRead Refusal). read_number (lettered_as (read_under Broadcast coding) x)) e))
 
       from : LetteredReadable coding count o (length out) → read_number (read_answers Broadcast coding count o (length out)) ≡ 0
       from w =

@@ -13,13 +13,10 @@ use lib.ListN.{length}
 use Rattle.lists.specs.Bits.{bit_of, gather, bits_of}
 use Rattle.words.specs.declared.Service.{Service}
 use Rattle.words.specs.declared.Service.TheVariants.{ShortMessage, Broadcast, Ussd, OldPage}
-use Rattle.words.specs.declared.Filled.TheVariants as filled
 use Rattle.words.specs.Judging.{Rule, Verdict, refused, accepted, verdict, settle}
 use Rattle.words.proofs.Judging.{verdict-accepted-first}
 use Rattle.fields.specs.declared.Letters.{Letters}
 use Rattle.coding.specs.declared.Reading.{Reading}
-use Rattle.coding.specs.declared.OctetRead.TheVariants as octet-read
-use Rattle.coding.specs.declared.OctetWritten.TheVariants as octet-written
 use Rattle.coding.specs.Readings.{with_letters, without_letters}
 use Rattle.coding.specs.OctetRead.{read_page, read_under, octet_reads}
 use Rattle.coding.specs.LanguageLetters.{is_lettered, coding_writes}
@@ -27,13 +24,14 @@ use Rattle.coding.specs.Holding.{is_ucs2, is_data, text_rules}
 use Rattle.coding.proofs.Prefixed.{lettered-octets, read-given}
 use Rattle.coding.proofs.TextOctet.{coding-written}
 use Rattle.coding.proofs.Theorems.{settled, write_read}
-use Rattle.lettered.specs.declared.LetteredRead.TheVariants as lettered
 use Rattle.lettered.specs.LetteredPage.{lettered_octets, lettered_size_rules, lettered_write_rules, lettered_writes, lettered_write_leaves, letters_in, lettered_text, lettered_read_rules, lettered_reads, lettered_read_leaves}
-use Rattle.demands.specs.declared.MessageRead.TheVariants as read
-use Rattle.demands.specs.declared.MessageWritten.TheVariants as written
 use Rattle.demands.specs.MessageRead.{held_text, text_length_rules, lettered_as, page_reads, page_read_leaves, clear_rules, read_answers, read_leaves}
 use Rattle.demands.specs.MessageWritten.{text_octets, text_size_rules, message_count, letter_rules, page_as, page_writes, page_write_leaves, write_answers, write_leaves}
 use Rattle.demands.proofs.Steps.{read_held, write-held}
+use Rattle.std.specs.Prelude.{Ok, Err}
+use Rattle.demands.specs.Successes.{ok_message_written}
+use Rattle.lettered.specs.Successes.{ok_lettered_read}
+use Rattle.demands.specs.Successes.{ok_message_read}
 
 -- ---- the two coding octets
 
@@ -55,7 +53,7 @@ lettered-clear OldPage o h e = absurd (false≢true e)
 
 -- ---- reading
 
-read-settle : (v : Verdict) (n : ℕ) (t : Letters) (r : Reading) → lettered_as r (settle v lettered.Refused (lettered.Done n t)) ≡ settle v read.Refused (read.Done n (with_letters t r))
+read-settle : (v : Verdict) (n : ℕ) (t : Letters) (r : Reading) → lettered_as r (settle v Err (ok_lettered_read n t)) ≡ settle v Err (ok_message_read n (with_letters t r))
 read-settle (refused q) n t r = refl
 read-settle accepted n t r = refl
 
@@ -63,7 +61,7 @@ clear-accepts : (r : Reading) → Clear r → verdict (clear_rules r) ≡ accept
 unfolding clear_rules verdict
 clear-accepts r c = simp (c.clear, c.text)
 
-pub lettered-reads : (service : Service) (coding count : ℕ) (o out : List ℕ) (r : Reading) → coding < 256 → octet-read.Done r ≡ octet_reads service coding → is_lettered service r ≡ true
+pub lettered-reads : (service : Service) (coding count : ℕ) (o out : List ℕ) (r : Reading) → coding < 256 → Ok r ≡ octet_reads service coding → is_lettered service r ≡ true
     → (page_reads r count o (length out) ≡ read_answers service coding count o (length out))
     × (page_read_leaves r count o out ≡ read_leaves service coding count o out)
 unfolding lettered_reads lettered_read_leaves
@@ -81,7 +79,7 @@ lettered-reads service coding count o out r h e l =
 
 -- ---- writing
 
-write-settle : (v : Verdict) (n coding : ℕ) → page_as coding (settle v filled.Refused (filled.Done n)) ≡ settle v written.Refused (written.Done n 0 coding)
+write-settle : (v : Verdict) (n coding : ℕ) → page_as coding (settle v Err (Ok n)) ≡ settle v Err (ok_message_written n 0 coding)
 write-settle (refused q) n coding = refl
 write-settle accepted n coding = refl
 
@@ -102,7 +100,7 @@ unfolding letter_rules lettered_write_rules verdict
 letters-judged r t room c = simp (c.clear, c.text)
 
 -- the coding octet of what begins with letters reads so, and so the reading is neither compressed nor data
-pub written-clear : (service : Service) (r : Reading) (coding : ℕ) → octet-written.Done coding ≡ coding_writes service r → is_lettered service r ≡ true → Clear r
+pub written-clear : (service : Service) (r : Reading) (coding : ℕ) → Ok coding ≡ coding_writes service r → is_lettered service r ≡ true → Clear r
 written-clear service r coding e l =
     let w = (coding-written service r coding (sym e)).1 in
     let same : read_under service coding ≡ without_letters r = read-given service coding (without_letters r) (sym (write_read service r coding w)) in
@@ -115,7 +113,7 @@ written-clear service r coding e l =
     past Ussd e = e
     past OldPage e = e
 
-pub lettered-writes : (service : Service) (r : Reading) (coding : ℕ) (units out : List ℕ) → octet-written.Done coding ≡ coding_writes service r → is_lettered service r ≡ true
+pub lettered-writes : (service : Service) (r : Reading) (coding : ℕ) (units out : List ℕ) → Ok coding ≡ coding_writes service r → is_lettered service r ≡ true
     → (page_writes (is_ucs2 r.alphabet) r.letters coding units (length out) ≡ write_answers service r units (length out))
     × (page_write_leaves (is_ucs2 r.alphabet) r.letters units out ≡ write_leaves service r units out)
 unfolding lettered_writes lettered_write_leaves
@@ -129,4 +127,4 @@ lettered-writes service r coding units out e l =
     ∙ letters-judged r units (length out) (written-clear service r coding e l))
     (ap (λ (b : Bool). cond b x (text_octets service ucs2 units)) l)
     in
-    (write-settle v (length x) coding ∙ ap (λ (n : ℕ). settle v written.Refused (written.Done (length x) n coding)) (sym (page-count service r units l)) ∙ w.0, w.1)
+    (write-settle v (length x) coding ∙ ap (λ (n : ℕ). settle v Err (ok_message_written (length x) n coding)) (sym (page-count service r units l)) ∙ w.0, w.1)

@@ -22,19 +22,17 @@ use Rattle.coding.specs.declared.Reading.{Reading}
 use Rattle.coding.specs.Readings.{without_letters}
 use Rattle.fields.specs.Numbers.{alphabet_no}
 use Rattle.coding.specs.OctetRead.{class_in, discard_in, store_in, general_reading, notice_reading, last_reading, read_short, octet_rules}
-use Rattle.coding.specs.declared.OctetWritten.TheVariants as octet-written
 use Rattle.coding.specs.OctetWritten.{smallest, write_rules as alone_rules}
 use Rattle.coding.specs.LanguageLetters.{coding_rules, coding_writes}
 use Rattle.coding.specs.Holding.{is_data, text_rules}
 use Rattle.coding.proofs.TextOctet.{coding-written}
 use Rattle.coding.proofs.Theorems.{settled, write_read}
-use Rattle.demands.specs.declared.MessageRead.TheVariants as read
-use Rattle.demands.specs.declared.MessageWritten.TheVariants as written
 use Rattle.demands.specs.MessageRead.{text_length_rules, length_rules, read_rules, read_answers}
 use Rattle.demands.specs.MessageWritten.{text_size_rules, size_rules, write_rules, write_answers}
 use Rattle.demands.proofs.Accepting.{read-verdict, write-verdict}
 use Rattle.coding.proofs.Prefixed.{read-given}
 use Rattle.coding.proofs.Headed.{isnt}
+use Rattle.std.specs.Prelude.{Ok, Err}
 
 -- neither a mark nor an alphabet behind UCS2, whose number is 2
 abbrev short_test : ℕ → Bool
@@ -63,13 +61,13 @@ not_third false false true d e = omega arith
 not_third false false false true e = omega arith
 not_third false false false false e = omega arith
 
-pub read-short-never-3 : (coding count : ℕ) (o : List ℕ) (room : ℕ) → coding < 256 → read_answers ShortMessage coding count o room ≡ read.Refused Prefixed → ⊥
+pub read-short-never-3 : (coding count : ℕ) (o : List ℕ) (room : ℕ) → coding < 256 → read_answers ShortMessage coding count o room ≡ Err Prefixed → ⊥
 unfolding read_rules octet_rules text_rules text_length_rules
 read-short-never-3 coding count o room h e =
     let p = short-reads coding h in
     not_third (read_short coding).compressed (is_data (read_short coding).alphabet) _ _
     (ap₂ (λ (a b : Bool). number_of_verdict (verdict (when (read_short coding).compressed Compressed ∷ when (is_data (read_short coding).alphabet) NoText ∷ when a Prefixed ∷ when b Prefixed ∷ length_rules ShortMessage (read_short coding) count o room))) (sym p.0) (sym p.1)
-    ∙ ap number_of_verdict (read-verdict ShortMessage coding count o room (read.Refused Prefixed) (sym e)))
+    ∙ ap number_of_verdict (read-verdict ShortMessage coding count o room (Err Prefixed) (sym e)))
 
 -- a verdict of rules that go on after others is of the first, or of the rest where the first accept
 part : (first rest : List Rule) (n : ℕ) → number_of_verdict (verdict (first ++ rest)) ≡ n
@@ -100,15 +98,15 @@ not-writing false false false false false u e = omega arith
 written-unmarked : (r : Reading) → verdict (coding_rules ShortMessage r) ≡ accepted → (r.prefix ≡ false) × (r.header ≡ false)
 unfolding coding_writes
 written-unmarked r v =
-    let c : coding_writes ShortMessage r ≡ octet-written.Done (smallest ShortMessage r) = settle-given (verdict (coding_rules ShortMessage r)) octet-written.Refused (octet-written.Done (smallest ShortMessage r)) v in
+    let c : coding_writes ShortMessage r ≡ Ok (smallest ShortMessage r) = settle-given (verdict (coding_rules ShortMessage r)) Err (Ok (smallest ShortMessage r)) v in
     let w = (coding-written ShortMessage r (smallest ShortMessage r) c).1 in
     let same : read_short (smallest ShortMessage r) ≡ without_letters r = read-given ShortMessage (smallest ShortMessage r) (without_letters r) (sym (write_read ShortMessage r (smallest ShortMessage r) w)) in
     let p = short-reads (smallest ShortMessage r) (settled ShortMessage r (smallest ShortMessage r) w).within in
     (ap (λ (x : Reading). x.prefix) (sym same) ∙ p.0, ap (λ (x : Reading). x.header) (sym same) ∙ p.1)
 
-pub write-short-never-3 : (r : Reading) (t : List ℕ) (room : ℕ) → write_answers ShortMessage r t room ≡ written.Refused Prefixed → ⊥
+pub write-short-never-3 : (r : Reading) (t : List ℕ) (room : ℕ) → write_answers ShortMessage r t room ≡ Err Prefixed → ⊥
 unfolding write_rules coding_rules alone_rules text_rules text_size_rules
-write-short-never-3 r t room e = go (part (coding_rules ShortMessage r) (text_rules ShortMessage r ++ size_rules ShortMessage r t room) 3 (ap number_of_verdict (write-verdict ShortMessage r t room (written.Refused Prefixed) (sym e))))
+write-short-never-3 r t room e = go (part (coding_rules ShortMessage r) (text_rules ShortMessage r ++ size_rules ShortMessage r t room) 3 (ap number_of_verdict (write-verdict ShortMessage r t room (Err Prefixed) (sym e))))
   where
     go : (number_of_verdict (verdict (coding_rules ShortMessage r)) ≡ 3) ⊎ ((verdict (coding_rules ShortMessage r) ≡ accepted) × (number_of_verdict (verdict (text_rules ShortMessage r ++ size_rules ShortMessage r t room)) ≡ 3)) → ⊥
     go (inl n) = not-coding _ _ _ _ n
@@ -125,6 +123,6 @@ old-page false true c q h = inr (inl (sym (cc)))
 old-page false false true q h = inr (inr (sym (cc)))
 old-page false false false q h = absurd (let z : ◌≡◌ {A = ℕ} 0 1 = cc in omega arith)
 
-pub read-old-2-4-7 : (coding count : ℕ) (o : List ℕ) (room : ℕ) (q : Refusal) → read_answers OldPage coding count o room ≡ read.Refused q → (q ≡ NoText) ⊎ ((q ≡ WrongLength) ⊎ (q ≡ NoRoom))
+pub read-old-2-4-7 : (coding count : ℕ) (o : List ℕ) (room : ℕ) (q : Refusal) → read_answers OldPage coding count o room ≡ Err q → (q ≡ NoText) ⊎ ((q ≡ WrongLength) ⊎ (q ≡ NoRoom))
 unfolding read_rules octet_rules text_rules text_length_rules
-read-old-2-4-7 coding count o room q e = old-page _ _ _ q (read-verdict OldPage coding count o room (read.Refused q) (sym e))
+read-old-2-4-7 coding count o room q e = old-page _ _ _ q (read-verdict OldPage coding count o room (Err q) (sym e))

@@ -13,7 +13,6 @@ use Rattle.words.specs.declared.Service.TheVariants.{ShortMessage, Broadcast, Us
 use Rattle.words.specs.Sizes.{most_septets, most_units}
 use Rattle.lists.specs.Closing.{without_closing}
 use Rattle.coding.specs.declared.Reading.{Reading}
-use Rattle.coding.specs.declared.OctetRead.TheVariants as octet-read
 use Rattle.coding.specs.OctetRead.{octet_reads}
 use Rattle.coding.specs.OctetWritten.{smallest}
 use Rattle.coding.specs.Holding.{is_ucs2}
@@ -33,6 +32,7 @@ use Rattle.demands.specs.Demands.{Writable, FilledByCr, OneCrMore}
 use Rattle.demands.proofs.Unlettered.{unmarked}
 use Rattle.letters.proofs.Texts.{codable-told, codable-snoc, cr-codable, codable-closed, closing-septets}
 use Rattle.demands.proofs.Texts.{more-septets, septets-more, filled-doubled, doubled-filled}
+use Rattle.std.specs.Prelude.{Ok}
 
 -- ---- what an accepted text is, by the alphabet of its reading
 
@@ -132,10 +132,10 @@ module _ (r : Reading) (t u : List ℕ) (room other : ℕ) where
 
 -- the coding octet that is written reads as the reading, and the octets and count that are written fit it
 pub write-reads : (service : Service) (r : Reading) (t : List ℕ) (room : ℕ) → Writable service r t room
-    → (octet_reads service (smallest service r) ≡ octet-read.Done r) × (fits_reading service r (length (message_octets service r t)) (message_count service r t) ≡ true)
+    → (octet_reads service (smallest service r) ≡ Ok r) × (fits_reading service r (length (message_octets service r t)) (message_count service r t) ≡ true)
 write-reads service r t room w = (back, by-alphabet r septets units)
   where
-    back : octet_reads service (smallest service r) ≡ octet-read.Done r
+    back : octet_reads service (smallest service r) ≡ Ok r
     back =
         let k = coding-complete service r w.octet.0 w.new w.plain w.octet.1.0 w.octet.1.1 in
         let s = settled service r k.0 (coding-written service r k.0 k.1).1 in

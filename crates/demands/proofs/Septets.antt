@@ -15,7 +15,6 @@ use borrow.Author.Tests.{lt-ltb, le-ltb, lt-leb}
 use Rattle.words.specs.declared.Service.{Service}
 use Rattle.words.specs.declared.Refusal.{Refusal}
 use Rattle.words.specs.declared.Refusal.TheVariants.{Unlisted, TooLong, Unwritable}
-use Rattle.words.specs.declared.Filled.TheVariants.{Done, Refused}
 use Rattle.words.specs.Sizes.{most_septets, is_old_page}
 use Rattle.lists.specs.Bits.{bit_of, gather}
 use Rattle.lists.specs.Lists.{first_wide, laid}
@@ -28,55 +27,56 @@ use Rattle.letters.specs.Reading.{text_of, old_text_of, read_as, text_rules, tex
 use Rattle.letters.proofs.Gathering.{gathered-refused}
 use Rattle.letters.proofs.Theorems.{septets-below}
 use Rattle.stream.specs.Stream.{unpacked, stream_bit, cut}
-use Rattle.stream.specs.declared.Packed.TheVariants as packed
 use Rattle.stream.specs.SeptetCalls.{septets_fit, septets_of, octets_of, travels}
 use Rattle.stream.specs.ArrayCalls.{low_bits, all_septets, array_rules, array_answers, array_leaves, all_answers, all_leaves, kept_count, held_count}
 use Rattle.stream.proofs.Calls.{all_most, kept-most, array-done, array-refused, array-length, array-all, array-front}
 use Rattle.stream.proofs.Arrays.{kept-front, kept-count, held-septets}
 use Rattle.stream.proofs.LowBits.{low_part, low_same}
 use Rattle.stream.proofs.Sent.{most-182}
-use Rattle.demands.specs.declared.MessageWritten.TheVariants as written
 use Rattle.demands.specs.MessageRead.{shown_septets, text_length_rules, text_reads, text_read_leaves}
 use Rattle.demands.specs.MessageWritten.{text_size_rules, text_writes, text_write_leaves}
 use Rattle.demands.specs.Inner.{packed_as}
 use Rattle.demands.proofs.Steps.{write-agree, leaves-agree}
+use Rattle.std.specs.Prelude.{Ok, Err}
+use Rattle.stream.specs.Successes.{ok_packed}
+use Rattle.demands.specs.Successes.{ok_message_written}
 
 -- ---- reading
 
 -- what unpacking into the array tells: the octets do not fit, or the septets that are kept stand at its front
 module _ (service : Service) (count : ℕ) (o array : List ℕ) (n : length array ≡ 184) where
-  pub unpacked-fits : (k : ℕ) → Done k ≡ all_answers service o count (length array) → septets_fit service (length o) count ≡ true
+  pub unpacked-fits : (k : ℕ) → Ok k ≡ all_answers service o count (length array) → septets_fit service (length o) count ≡ true
   unpacked-fits k e = (array-done service o count array n k e).0
 
-  pub unpacked-room : (k : ℕ) (left : List ℕ) → Done k ≡ all_answers service o count (length array) → left ≡ all_leaves service o count array → k ≤ length left
+  pub unpacked-room : (k : ℕ) (left : List ℕ) → Ok k ≡ all_answers service o count (length array) → left ≡ all_leaves service o count array → k ≤ length left
   unpacked-room k left e l =
       let d = array-done service o count array n k e in
       omega (arith, d.1, array-length service o count array n left d.0 l, all_most service o count d.0)
 
   -- how many are left of the text, and they are its septets
-  kept-length : (k : ℕ) (left : List ℕ) → Done k ≡ all_answers service o count (length array) → left ≡ all_leaves service o count array
+  kept-length : (k : ℕ) (left : List ℕ) → Ok k ≡ all_answers service o count (length array) → left ≡ all_leaves service o count array
       → (m : ℕ) → m ≡ kept_count service (take k left) → m ≡ length (septets_of service count o)
   kept-length k left e l m p =
       let d = array-done service o count array n k e in
       p ∙ ap (kept_count service) (ap (λ (i : ℕ). take i left) d.1 ∙ array-all service o count array n left d.0 l) ∙ kept-count service count o
 
-  pub kept-room : (k : ℕ) (left : List ℕ) → Done k ≡ all_answers service o count (length array) → left ≡ all_leaves service o count array
+  pub kept-room : (k : ℕ) (left : List ℕ) → Ok k ≡ all_answers service o count (length array) → left ≡ all_leaves service o count array
       → (m : ℕ) → m ≡ kept_count service (take k left) → m ≤ length left
   kept-room k left e l m p =
       let d = array-done service o count array n k e in
       omega (arith, kept-length k left e l m p, array-length service o count array n left d.0 l, kept-most service o count, all_most service o count d.0)
 
-  pub kept_run : (k : ℕ) (left : List ℕ) → Done k ≡ all_answers service o count (length array) → left ≡ all_leaves service o count array
+  pub kept_run : (k : ℕ) (left : List ℕ) → Ok k ≡ all_answers service o count (length array) → left ≡ all_leaves service o count array
       → (m : ℕ) → m ≡ kept_count service (take k left) → take m left ≡ septets_of service count o
   kept_run k left e l m p =
       let d = array-done service o count array n k e in
       ap (λ (i : ℕ). take i left) (kept-length k left e l m p) ∙ array-front service o count array n left d.0 l
 
   -- octets that do not fit are refused by the reader of 7-bit text
-  pub unpacked-refused : (q : Refusal) (out : List ℕ) → Refused q ≡ all_answers service o count (length array)
-      → (Refused q ≡ text_reads service false count o (length out)) × (out ≡ text_read_leaves service false count o out)
+  pub unpacked-refused : (q : Refusal) (out : List ℕ) → Err q ≡ all_answers service o count (length array)
+      → (Err q ≡ text_reads service false count o (length out)) × (out ≡ text_read_leaves service false count o out)
   unfolding text_reads text_read_leaves text_length_rules verdict
-  unpacked-refused q out e = let r = array-refused service o count array n q e in simp r.0 (ap Refused r.1, refl)
+  unpacked-refused q out e = let r = array-refused service o count array n q e in simp r.0 (ap Err r.1, refl)
 
 -- the alphabet of a service
 read-as : (old : Bool) (s : List ℕ) → read_as old s ≡ cond old (old_text_of s) (text_of s)
@@ -120,7 +120,7 @@ shown-reads service count o out f s e old p = shown-run service count o out f s 
 
 -- ---- writing
 
-packed-settle : (v : Verdict) (m n coding : ℕ) → packed_as coding (settle v packed.Refused (packed.Done m n)) ≡ settle v written.Refused (written.Done m n coding)
+packed-settle : (v : Verdict) (m n coding : ℕ) → packed_as coding (settle v Err (ok_packed m n)) ≡ settle v Err (ok_message_written m n coding)
 packed-settle (refused q) m n coding = refl
 packed-settle accepted m n coding = refl
 
@@ -149,20 +149,20 @@ module _ (service : Service) (units : List ℕ) (l : length units ≤ first_unli
 
 -- a text that is refused, for a unit or for its size
 pub unlisted-writes : (service : Service) (units : List ℕ) → is_old_page service ≡ false → first_unlisted units < length units → (coding : ℕ) (out : List ℕ)
-    → (written.Refused (Unlisted (first_unlisted units)) ≡ text_writes service false coding units (length out)) × (out ≡ text_write_leaves service false units out)
+    → (Err (Unlisted (first_unlisted units)) ≡ text_writes service false coding units (length out)) × (out ≡ text_write_leaves service false units out)
 unfolding text_writes text_write_leaves text_size_rules verdict
 unlisted-writes service units new l coding out = simp (new, lt-ltb _ _ l) (refl, refl)
 
 pub long-writes : (service : Service) (units : List ℕ) → is_old_page service ≡ false → length units ≤ first_unlisted units → most_septets service < length (septets_of' units) → (coding : ℕ) (out : List ℕ)
-    → (written.Refused TooLong ≡ text_writes service false coding units (length out)) × (out ≡ text_write_leaves service false units out)
+    → (Err TooLong ≡ text_writes service false coding units (length out)) × (out ≡ text_write_leaves service false units out)
 unfolding text_writes text_write_leaves text_size_rules verdict
 long-writes service units new l m coding out = simp (new, le-ltb _ _ l, lt-ltb _ _ m) (refl, refl)
 
 -- what is not gathered is refused by the writer, whatever the service's size
-pub gathered-writes : (service : Service) (units : List ℕ) → is_old_page service ≡ false → (r : Gathered) → r ≡ gathered_as units → (q : Refusal) → Refused q ≡ r.answer → (coding : ℕ) (out : List ℕ)
-    → (written.Refused q ≡ text_writes service false coding units (length out)) × (out ≡ text_write_leaves service false units out)
+pub gathered-writes : (service : Service) (units : List ℕ) → is_old_page service ≡ false → (r : Gathered) → r ≡ gathered_as units → (q : Refusal) → Err q ≡ r.answer → (coding : ℕ) (out : List ℕ)
+    → (Err q ≡ text_writes service false coding units (length out)) × (out ≡ text_write_leaves service false units out)
 gathered-writes service units new r e q p coding out =
     ⊎_elim
-    (λ w. let u = unlisted-writes service units new w.0 coding out in (ap written.Refused w.1 ∙ u.0, u.1))
-    (λ w. let u = long-writes service units new w.0 (omega (arith, w.1, most-182 service)) coding out in (ap written.Refused w.2 ∙ u.0, u.1))
+    (λ w. let u = unlisted-writes service units new w.0 coding out in (ap Err w.1 ∙ u.0, u.1))
+    (λ w. let u = long-writes service units new w.0 (omega (arith, w.1, most-182 service)) coding out in (ap Err w.2 ∙ u.0, u.1))
     (gathered-refused units r e q p)

@@ -11,7 +11,7 @@
 --                                             leaves the text at the front of the buffer
 --   FilledByCr t                           == the text fills a non-zero multiple of eight septets and ends in a carriage return
 --   OneCrMore t u                          == u is t with a single carriage return added, where t is filled so
-use Rattle.std.specs.Prelude.{◌≡◌, true, false, List, [], ◌∷◌, ◌++◌, ◌⊎◌, ℕ, ◌%◌, ◌<◌, ◌≤◌, length, take}
+use Rattle.std.specs.Prelude.{◌≡◌, true, false, List, [], ◌∷◌, ◌++◌, ◌⊎◌, ℕ, ◌%◌, ◌<◌, ◌≤◌, length, take, Ok}
 use Rattle.words.specs.declared.Service.{Service}
 use Rattle.words.specs.declared.Service.TheVariants.{Broadcast}
 use Rattle.words.specs.Sizes.{is_old_page}
@@ -19,16 +19,15 @@ use Rattle.lists.specs.Lists.{laid}
 use Rattle.fields.specs.Letters.{are_letters}
 use Rattle.coding.specs.declared.Reading.{Reading}
 use Rattle.coding.specs.Readings.{without_letters}
-use Rattle.coding.specs.declared.OctetRead.TheVariants as octet-read
 use Rattle.coding.specs.OctetRead.{read_under, octet_reads}
 use Rattle.coding.specs.Holding.{is_ucs2, is_data}
 use Rattle.letters.specs.Writing.{septets_of}
 use Rattle.stream.specs.UssdPacking.{last}
 use Rattle.lettered.specs.LetteredPage.{room_septets, room_units, wrong_letters, lettered_text}
-use Rattle.demands.specs.declared.MessageRead.TheVariants as read
 use Rattle.demands.specs.MessageRead.{fits_reading, text_of_message, read_answers, read_leaves}
 use Rattle.demands.specs.MessageWritten.{not_codable, over_room, over_size, message_octets, write_answers, write_leaves}
 use Rattle.demands.specs.Reports.{write_number, write_written, write_count, write_coding}
+use Rattle.demands.specs.Successes.{ok_message_read}
 
 pub record HoldsText (r : Reading) : Type 0 where
   pub clear : r.compressed ≡ false
@@ -39,14 +38,14 @@ pub record HoldsText (r : Reading) : Type 0 where
 pub record Writable (service : Service) (r : Reading) (t : List ℕ) (room : ℕ) : Type 0 where
   pub new : is_old_page service ≡ false
   pub plain : r.reserved ≡ false
-  pub octet : (o : ℕ) × ((o < 256) × (octet_reads service o ≡ octet-read.Done r))
+  pub octet : (o : ℕ) × ((o < 256) × (octet_reads service o ≡ Ok r))
   pub holds : HoldsText r
   pub codable : not_codable (is_ucs2 r.alphabet) t ≡ false
   pub sized : over_size service (is_ucs2 r.alphabet) t ≡ false
   pub fits : length (message_octets service r t) ≤ room
 
 pub record Readable (service : Service) (coding count : ℕ) (o : List ℕ) (room : ℕ) (r : Reading) : Type 0 where
-  pub reads : octet_reads service coding ≡ octet-read.Done r
+  pub reads : octet_reads service coding ≡ Ok r
   pub holds : HoldsText r
   pub sized : fits_reading service r (length o) count ≡ true
   pub fits : length (text_of_message service r count o) ≤ room
@@ -54,7 +53,7 @@ pub record Readable (service : Service) (coding count : ℕ) (o : List ℕ) (roo
 pub record LetteredWritable (r : Reading) (t : List ℕ) (room : ℕ) : Type 0 where
   pub mark : r.prefix ≡ true
   pub plain : r.reserved ≡ false
-  pub octet : (o : ℕ) × ((o < 256) × (octet_reads Broadcast o ≡ octet-read.Done (without_letters r)))
+  pub octet : (o : ℕ) × ((o < 256) × (octet_reads Broadcast o ≡ Ok (without_letters r)))
   pub letters : are_letters r.letters ≡ true
   pub codable : not_codable (is_ucs2 r.alphabet) t ≡ false
   pub sized : over_room room_septets room_units (is_ucs2 r.alphabet) t ≡ false
@@ -83,7 +82,7 @@ sent_coding service r t out = write_coding (write_answers service r t (length ou
 abbrev pub Comes : Service → ℕ → ℕ → List ℕ → Reading → List ℕ → Type 0
 Comes service coding count o r text =
     (out : List ℕ) → length text ≤ length out
-    → (read_answers service coding count o (length out) ≡ read.Done (length text) r) × (read_leaves service coding count o out ≡ laid text out)
+    → (read_answers service coding count o (length out) ≡ ok_message_read (length text) r) × (read_leaves service coding count o out ≡ laid text out)
 
 pub record FilledByCr (t : List ℕ) : Type 0 where
   pub some : 0 < length (septets_of t)

@@ -1,3 +1,4 @@
+pub mod Successes
 pub mod MessageRead
 pub mod MessageWritten
 pub mod Reports

@@ -15,11 +15,9 @@
 --   reading_of_message service r o              == the reading r, on such a page with the letters that it begins with
 --   read_rules service coding count o room      == the refusals, where the lent buffer has that much room
 --   read_answers, read_leaves                   == what read_message answers, and what it leaves in the lent buffer
-use Rattle.std.specs.Prelude.{ℕ, Bool, not, cond, List, [], ◌∷◌, ◌++◌, ltb, length}
+use Rattle.std.specs.Prelude.{ℕ, Bool, not, cond, List, [], ◌∷◌, ◌++◌, ltb, length, Result, Ok, Err}
 use Rattle.words.specs.declared.Service.{Service}
 use Rattle.words.specs.declared.Refusal.TheVariants.{Compressed, NoText, WrongLength, NoRoom}
-use Rattle.words.specs.declared.Filled.{Filled}
-use Rattle.words.specs.declared.Filled.TheVariants as filled
 use Rattle.words.specs.Sizes.{is_old_page}
 use Rattle.lists.specs.Lists.{laid}
 use Rattle.words.specs.Judging.{Rule, when, verdict, settle, service_rules}
@@ -33,9 +31,10 @@ use Rattle.stream.specs.SeptetCalls.{septets_fit, septets_of}
 use Rattle.stream.specs.UnitCalls.{units_fit, units_of}
 use Rattle.lettered.specs.LetteredPage.{letters_in, lettered_text, lettered_read_rules, lettered_reads, lettered_read_leaves}
 use Rattle.lettered.specs.declared.LetteredRead.{LetteredRead}
-use Rattle.lettered.specs.declared.LetteredRead.TheVariants as lettered
 use Rattle.demands.specs.declared.MessageRead.{MessageRead}
-use Rattle.demands.specs.declared.MessageRead.TheVariants.{Done, Refused}
+use Rattle.words.specs.declared.Refusal.{Refusal}
+use Rattle.lettered.specs.Successes.{ok_lettered_read}
+use Rattle.demands.specs.Successes.{ok_message_read}
 
 abbrev pub fits_text : Service → Bool → ℕ → ℕ → Bool
 fits_text service ucs2 octets count = cond ucs2 (units_fit service octets count) (septets_fit service octets count)
@@ -55,19 +54,19 @@ text_length_rules service ucs2 count o room =
     ∷ when (ltb room (length (held_text service ucs2 count o))) NoRoom
     ∷ [])
 
-unfoldable pub text_reads : Service → Bool → ℕ → List ℕ → ℕ → Filled
+unfoldable pub text_reads : Service → Bool → ℕ → List ℕ → ℕ → Result ℕ Refusal
 text_reads service ucs2 count o room =
-    settle (verdict (text_length_rules service ucs2 count o room)) filled.Refused (filled.Done (length (held_text service ucs2 count o)))
+    settle (verdict (text_length_rules service ucs2 count o room)) Err (Ok (length (held_text service ucs2 count o)))
 
 unfoldable pub text_read_leaves : Service → Bool → ℕ → List ℕ → List ℕ → List ℕ
 text_read_leaves service ucs2 count o out =
     settle (verdict (text_length_rules service ucs2 count o (length out))) (λ q. out) (laid (held_text service ucs2 count o) out)
 
-abbrev pub lettered_as : Reading → LetteredRead → MessageRead
-lettered_as r (lettered.Done units letters) = Done units (with_letters letters r)
-lettered_as r (lettered.Refused q) = Refused q
+abbrev pub lettered_as : Reading → Result LetteredRead Refusal → Result MessageRead Refusal
+lettered_as r (Ok page) = ok_message_read page.units (with_letters page.letters r)
+lettered_as r (Err q) = Err q
 
-abbrev pub page_reads : Reading → ℕ → List ℕ → ℕ → MessageRead
+abbrev pub page_reads : Reading → ℕ → List ℕ → ℕ → Result MessageRead Refusal
 page_reads r count o room = lettered_as r (lettered_reads (is_ucs2 r.alphabet) count o room)
 
 abbrev pub page_read_leaves : Reading → ℕ → List ℕ → List ℕ → List ℕ
@@ -102,10 +101,10 @@ read_rules service coding count o room =
     ++ (heard_rules service (read_under service coding)
     ++ length_rules service (read_under service coding) count o room)
 
-unfoldable pub read_answers : Service → ℕ → ℕ → List ℕ → ℕ → MessageRead
+unfoldable pub read_answers : Service → ℕ → ℕ → List ℕ → ℕ → Result MessageRead Refusal
 read_answers service coding count o room =
-    settle (verdict (read_rules service coding count o room)) Refused
-    (Done (length (text_of_message service (read_under service coding) count o)) (reading_of_message service (read_under service coding) o))
+    settle (verdict (read_rules service coding count o room)) Err
+    (ok_message_read (length (text_of_message service (read_under service coding) count o)) (reading_of_message service (read_under service coding) o))
 
 unfoldable pub read_leaves : Service → ℕ → ℕ → List ℕ → List ℕ → List ℕ
 read_leaves service coding count o out =

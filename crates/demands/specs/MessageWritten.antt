@@ -14,15 +14,13 @@
 --   message_octets, message_count, size_rules == the same of a text that is written as the reading r
 --   write_rules service r units room          == the refusals, where the lent buffer has that much room
 --   write_answers, write_leaves               == what write_message answers, and what it leaves in the lent buffer
-use Rattle.std.specs.Prelude.{ℕ, Bool, not, cond, List, [], ◌∷◌, ◌++◌, length}
+use Rattle.std.specs.Prelude.{ℕ, Bool, not, cond, List, [], ◌∷◌, ◌++◌, length, Result, Ok, Err}
 use Rattle.words.specs.declared.Service.{Service}
 use Rattle.words.specs.declared.Refusal.TheVariants.{Compressed, NoText, WrongLetters, Unwritable}
 use Rattle.words.specs.Sizes.{most_septets, most_units, is_old_page}
 use Rattle.lists.specs.Lists.{laid}
 use Rattle.words.specs.Judging.{Rule, when, verdict, settle}
 use Rattle.coding.specs.declared.Reading.{Reading}
-use Rattle.words.specs.declared.Filled.{Filled}
-use Rattle.words.specs.declared.Filled.TheVariants as filled
 use Rattle.fields.specs.declared.Letters.{Letters}
 use Rattle.fields.specs.Letters.{are_letters}
 use Rattle.coding.specs.OctetWritten.{smallest}
@@ -34,7 +32,8 @@ use Rattle.stream.specs.UnitCalls.{ucs2_octets_of, unit_count_of}
 pub use Rattle.letters.specs.Sized.{not_codable, over_room, sized_rules}
 use Rattle.lettered.specs.LetteredPage.{lettered_octets, lettered_size_rules, lettered_writes, lettered_write_leaves}
 use Rattle.demands.specs.declared.MessageWritten.{MessageWritten}
-use Rattle.demands.specs.declared.MessageWritten.TheVariants.{Done, Refused}
+use Rattle.words.specs.declared.Refusal.{Refusal}
+use Rattle.demands.specs.Successes.{ok_message_written}
 
 abbrev pub over_size : Service → Bool → List ℕ → Bool
 over_size service ucs2 units = over_room (most_septets service) (most_units service) ucs2 units
@@ -50,10 +49,10 @@ unfoldable pub text_size_rules : Service → Bool → List ℕ → ℕ → List 
 text_size_rules service ucs2 units room =
     sized_rules (most_septets service) (most_units service) ucs2 units (text_octets service ucs2 units) room
 
-unfoldable pub text_writes : Service → Bool → ℕ → List ℕ → ℕ → MessageWritten
+unfoldable pub text_writes : Service → Bool → ℕ → List ℕ → ℕ → Result MessageWritten Refusal
 text_writes service ucs2 coding units room =
-    settle (verdict (when (is_old_page service) Unwritable ∷ text_size_rules service ucs2 units room)) Refused
-    (Done (length (text_octets service ucs2 units)) (text_count service ucs2 units) coding)
+    settle (verdict (when (is_old_page service) Unwritable ∷ text_size_rules service ucs2 units room)) Err
+    (ok_message_written (length (text_octets service ucs2 units)) (text_count service ucs2 units) coding)
 
 unfoldable pub text_write_leaves : Service → Bool → List ℕ → List ℕ → List ℕ
 text_write_leaves service ucs2 units out =
@@ -61,11 +60,11 @@ text_write_leaves service ucs2 units out =
     (laid (text_octets service ucs2 units) out)
 
 -- a page has no count
-abbrev pub page_as : ℕ → Filled → MessageWritten
-page_as coding (filled.Done octets) = Done octets 0 coding
-page_as coding (filled.Refused q) = Refused q
+abbrev pub page_as : ℕ → Result ℕ Refusal → Result MessageWritten Refusal
+page_as coding (Ok octets) = ok_message_written octets 0 coding
+page_as coding (Err q) = Err q
 
-abbrev pub page_writes : Bool → Letters → ℕ → List ℕ → ℕ → MessageWritten
+abbrev pub page_writes : Bool → Letters → ℕ → List ℕ → ℕ → Result MessageWritten Refusal
 page_writes ucs2 letters coding units room = page_as coding (lettered_writes ucs2 letters units room)
 
 abbrev pub page_write_leaves : Bool → Letters → List ℕ → List ℕ → List ℕ
@@ -97,10 +96,10 @@ mark_rules service r = cond (is_lettered service r) (letter_rules r) (text_rules
 unfoldable pub write_rules : Service → Reading → List ℕ → ℕ → List Rule
 write_rules service r units room = coding_rules service r ++ (mark_rules service r ++ size_rules service r units room)
 
-unfoldable pub write_answers : Service → Reading → List ℕ → ℕ → MessageWritten
+unfoldable pub write_answers : Service → Reading → List ℕ → ℕ → Result MessageWritten Refusal
 write_answers service r units room =
-    settle (verdict (write_rules service r units room)) Refused
-    (Done (length (message_octets service r units)) (message_count service r units) (smallest service r))
+    settle (verdict (write_rules service r units room)) Err
+    (ok_message_written (length (message_octets service r units)) (message_count service r units) (smallest service r))
 
 unfoldable pub write_leaves : Service → Reading → List ℕ → List ℕ → List ℕ
 write_leaves service r units out =

@@ -3,47 +3,46 @@
 -- Own rule: none. Assumes nothing.
 --   read_number, read_position, read_written, read_reading                 == what an answer of the reader reports
 --   write_number, write_position, write_written, write_count, write_coding == what an answer of the writer reports
-use Rattle.std.specs.Prelude.{ℕ}
+use Rattle.std.specs.Prelude.{ℕ, Result, Ok, Err}
 use Rattle.words.specs.Refusals.{number_of, position_of}
 use Rattle.coding.specs.declared.Reading.{Reading}
 use Rattle.coding.specs.Readings.{unmentioned}
 use Rattle.demands.specs.declared.MessageRead.{MessageRead}
-use Rattle.demands.specs.declared.MessageRead.TheVariants as read
 use Rattle.demands.specs.declared.MessageWritten.{MessageWritten}
-use Rattle.demands.specs.declared.MessageWritten.TheVariants as written
+use Rattle.words.specs.declared.Refusal.{Refusal}
 
-abbrev pub read_number : MessageRead → ℕ
-read_number (read.Done units reading) = 0
-read_number (read.Refused r) = number_of r
+abbrev pub read_number : Result MessageRead Refusal → ℕ
+read_number (Ok m) = 0
+read_number (Err r) = number_of r
 
-abbrev pub read_position : MessageRead → ℕ
-read_position (read.Done units reading) = 0
-read_position (read.Refused r) = position_of r
+abbrev pub read_position : Result MessageRead Refusal → ℕ
+read_position (Ok m) = 0
+read_position (Err r) = position_of r
 
-abbrev pub read_written : MessageRead → ℕ
-read_written (read.Done units reading) = units
-read_written (read.Refused r) = 0
+abbrev pub read_written : Result MessageRead Refusal → ℕ
+read_written (Ok m) = m.units
+read_written (Err r) = 0
 
-abbrev pub read_reading : MessageRead → Reading
-read_reading (read.Done units reading) = reading
-read_reading (read.Refused r) = unmentioned
+abbrev pub read_reading : Result MessageRead Refusal → Reading
+read_reading (Ok m) = m.reading
+read_reading (Err r) = unmentioned
 
-abbrev pub write_number : MessageWritten → ℕ
-write_number (written.Done octets count coding) = 0
-write_number (written.Refused r) = number_of r
+abbrev pub write_number : Result MessageWritten Refusal → ℕ
+write_number (Ok m) = 0
+write_number (Err r) = number_of r
 
-abbrev pub write_position : MessageWritten → ℕ
-write_position (written.Done octets count coding) = 0
-write_position (written.Refused r) = position_of r
+abbrev pub write_position : Result MessageWritten Refusal → ℕ
+write_position (Ok m) = 0
+write_position (Err r) = position_of r
 
-abbrev pub write_written : MessageWritten → ℕ
-write_written (written.Done octets count coding) = octets
-write_written (written.Refused r) = 0
+abbrev pub write_written : Result MessageWritten Refusal → ℕ
+write_written (Ok m) = m.octets
+write_written (Err r) = 0
 
-abbrev pub write_count : MessageWritten → ℕ
-write_count (written.Done octets count coding) = count
-write_count (written.Refused r) = 0
+abbrev pub write_count : Result MessageWritten Refusal → ℕ
+write_count (Ok m) = m.count
+write_count (Err r) = 0
 
-abbrev pub write_coding : MessageWritten → ℕ
-write_coding (written.Done octets count coding) = coding
-write_coding (written.Refused r) = 0
+abbrev pub write_coding : Result MessageWritten Refusal → ℕ
+write_coding (Ok m) = m.coding
+write_coding (Err r) = 0

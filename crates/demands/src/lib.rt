@@ -6,22 +6,20 @@ use words::Refusal;
 
 // What reading a message answers.
 #[derive(Clone, Copy)]
-pub enum MessageRead {
-    // How many units it stored at the front of the lent buffer, and what the coding octet says.
-    Done { units: usize, reading: Reading },
-    // Why it stored none.
-    Refused(Refusal),
+pub struct MessageRead {
+    // How many units it stored at the front of the lent buffer.
+    pub units: usize,
+    // What the coding octet says.
+    pub reading: Reading,
 }
 
 // What writing a message answers.
 #[derive(Clone, Copy)]
-pub enum MessageWritten {
-    // How many octets it stored at the front of the lent buffer, the length count and the data coding octet.
-    Done {
-        octets: usize,
-        count: usize,
-        coding: u8,
-    },
-    // Why it stored none.
-    Refused(Refusal),
+pub struct MessageWritten {
+    // How many octets it stored at the front of the lent buffer.
+    pub octets: usize,
+    // The length count.
+    pub count: usize,
+    // The data coding octet.
+    pub coding: u8,
 }

@@ -28,13 +28,13 @@ use Rattle.lists.proofs.Tests.{and_left, and_right}
 use Rattle.words.specs.declared.Refusal.{Refusal}
 use Rattle.words.specs.declared.Refusal.TheVariants.{WrongHeader}
 use Rattle.words.specs.Judging.{verdict}
+use Rattle.words.proofs.Rules.{ok-inside}
 use Rattle.headed.specs.declared.Numbers.{Numbers}
-use Rattle.headed.specs.declared.Concatenation.{Concatenation}
-use Rattle.headed.specs.declared.Concatenation.TheVariants.{Absent, Present}
 use Rattle.headed.specs.declared.HeaderRead.{HeaderRead}
-use Rattle.headed.specs.declared.HeaderRead.TheVariants.{Done, Refused}
 use Rattle.headed.specs.Header.{Element, elements_octets, header_octets, Elements, broken, whole, before, elements_up_to, elements_of, concatenation, numbers_of, last_numbers, wrong_length, header_size, header_body, right_elements, right_header, numbers_in, header_numbers, header_rules, header_reads, concatenation_header}
 use Rattle.headed.proofs.Steps.{chosen, elements-none, elements-next}
+use Rattle.std.specs.Prelude.{Result, Option, Err, Some, None}
+use Rattle.headed.specs.Successes.{ok_header_read}
 
 -- ---- elements
 
@@ -97,12 +97,12 @@ body-front [] h = absurd (omega arith)
 body-front (x ∷ o) h = ap (λ (n : ℕ). n ∷ take x o) (sym (length-take-le x o (omega arith)))
 
 pub right-header : (o : List ℕ) → right_header o ≡ true
-    → (es : List Element) × ((take (header_size o) o ≡ header_octets es) × ((header_numbers o ≡ last_numbers Absent es) × (wrong_length es ≡ false)))
+    → (es : List Element) × ((take (header_size o) o ≡ header_octets es) × ((header_numbers o ≡ last_numbers None es) × (wrong_length es ≡ false)))
 unfolding header_numbers header_octets
 right-header o right = go (elements_of (header_body o)) refl (right-elements o right)
   where
     go : (x : Elements) → elements_of (header_body o) ≡ x → right_elements x ≡ true
-        → (es : List Element) × ((take (header_size o) o ≡ header_octets es) × ((header_numbers o ≡ last_numbers Absent es) × (wrong_length es ≡ false)))
+        → (es : List Element) × ((take (header_size o) o ≡ header_octets es) × ((header_numbers o ≡ last_numbers None es) × (wrong_length es ≡ false)))
     go broken e r = absurd (let z : ◌≡◌ {A = ℕ} 0 1 = cc in omega arith)
     go (whole es) e r =
         let front : take (header_size o) o ≡ header_octets es = body-front o (right-long o right) ∙ ap (λ (b : List ℕ). length b ∷ b) (sym (elements-joined (header_body o) es e)) in
@@ -118,7 +118,7 @@ module _ (es : List Element) (rest : List ℕ) where
   unfolding header_octets header_body
   header-elements = ap elements_of (take-append_seam (elements_octets es) rest) ∙ elements-back es
 
-  pub header-numbers : header_numbers (header_octets es ++ rest) ≡ last_numbers Absent es
+  pub header-numbers : header_numbers (header_octets es ++ rest) ≡ last_numbers None es
   unfolding header_numbers
   header-numbers = ap numbers_in header-elements
 
@@ -131,57 +131,57 @@ module _ (es : List Element) (rest : List ℕ) where
 -- ---- read_header
 
 -- the two answers that there are
-abbrev Outcome : List ℕ → HeaderRead → Type 0
-Outcome o a = ((right_header o ≡ true) × (a ≡ Done (header_size o) (header_numbers o))) ⊎ ((right_header o ≡ false) × (a ≡ Refused WrongHeader))
+abbrev Outcome : List ℕ → Result HeaderRead Refusal → Type 0
+Outcome o a = ((right_header o ≡ true) × (a ≡ ok_header_read (header_size o) (header_numbers o))) ⊎ ((right_header o ≡ false) × (a ≡ Err WrongHeader))
 
 module _ (o : List ℕ) where
-  pub header-accepts : right_header o ≡ true → header_reads o ≡ Done (header_size o) (header_numbers o)
+  pub header-accepts : right_header o ≡ true → header_reads o ≡ ok_header_read (header_size o) (header_numbers o)
   unfolding header_reads header_rules verdict
   header-accepts right = rw right
 
-  header-refuses : right_header o ≡ false → header_reads o ≡ Refused WrongHeader
+  header-refuses : right_header o ≡ false → header_reads o ≡ Err WrongHeader
   unfolding header_reads header_rules verdict
   header-refuses wrong = rw wrong
 
-  header-either : (a : HeaderRead) → header_reads o ≡ a → Outcome o a
+  header-either : (a : Result HeaderRead Refusal) → header_reads o ≡ a → Outcome o a
   header-either a e = go (right_header o) refl
     where
       go : (t : Bool) → right_header o ≡ t → Outcome o a
       go true r = inl (r, sym e ∙ header-accepts r)
       go false r = inr (r, sym e ∙ header-refuses r)
 
-  pub header-accounted : (n : ℕ) (c : Concatenation) → header_reads o ≡ Done n c
-      → (es : List Element) × ((take n o ≡ header_octets es) × ((c ≡ last_numbers Absent es) × (wrong_length es ≡ false)))
-  header-accounted n c e = go (header-either (Done n c) e)
+  pub header-accounted : (n : ℕ) (c : Option Numbers) → header_reads o ≡ ok_header_read n c
+      → (es : List Element) × ((take n o ≡ header_octets es) × ((c ≡ last_numbers None es) × (wrong_length es ≡ false)))
+  header-accounted n c e = go (header-either (ok_header_read n c) e)
     where
-      go : Outcome o (Done n c) → (es : List Element) × ((take n o ≡ header_octets es) × ((c ≡ last_numbers Absent es) × (wrong_length es ≡ false)))
+      go : Outcome o (ok_header_read n c) → (es : List Element) × ((take n o ≡ header_octets es) × ((c ≡ last_numbers None es) × (wrong_length es ≡ false)))
       go (inl (r, d)) =
-          let size : n ≡ header_size o = cc in
-          let numbers : c ≡ header_numbers o = cc in
+          let size : n ≡ header_size o = ap (λ (m : HeaderRead). m.octets) (ok-inside d) in
+          let numbers : c ≡ header_numbers o = ap (λ (m : HeaderRead). m.concatenation) (ok-inside d) in
           let w = right-header o r in
           (w.0, (ap (λ (k : ℕ). take k o) size ∙ w.1.0, (numbers ∙ w.1.1.0, w.1.1.1)))
       go (inr (r, d)) = absurd (let z : ◌≡◌ {A = ℕ} 0 1 = cc in omega arith)
 
-  pub header-refused-iff : (header_reads o ≡ Refused WrongHeader) ↔ (right_header o ≡ false)
-  header-refused-iff = (λ e. go (header-either (Refused WrongHeader) e), header-refuses)
+  pub header-refused-iff : (header_reads o ≡ Err WrongHeader) ↔ (right_header o ≡ false)
+  header-refused-iff = (λ e. go (header-either (Err WrongHeader) e), header-refuses)
     where
-      go : Outcome o (Refused WrongHeader) → right_header o ≡ false
+      go : Outcome o (Err WrongHeader) → right_header o ≡ false
       go (inl (r, d)) = absurd (let z : ◌≡◌ {A = ℕ} 0 1 = cc in omega arith)
       go (inr (r, d)) = r
 
-  pub header-refuses-only : (q : Refusal) → header_reads o ≡ Refused q → q ≡ WrongHeader
-  header-refuses-only q e = go (header-either (Refused q) e)
+  pub header-refuses-only : (q : Refusal) → header_reads o ≡ Err q → q ≡ WrongHeader
+  header-refuses-only q e = go (header-either (Err q) e)
     where
-      go : Outcome o (Refused q) → q ≡ WrongHeader
+      go : Outcome o (Err q) → q ≡ WrongHeader
       go (inl (r, d)) = absurd (let z : ◌≡◌ {A = ℕ} 0 1 = cc in omega arith)
       go (inr (r, d)) = cc
 
 pub any-header-back : (es : List Element) (rest : List ℕ) → wrong_length es ≡ false
-    → header_reads (header_octets es ++ rest) ≡ Done (length (header_octets es)) (last_numbers Absent es)
+    → header_reads (header_octets es ++ rest) ≡ ok_header_read (length (header_octets es)) (last_numbers None es)
 any-header-back es rest right =
-    header-accepts (header_octets es ++ rest) (header-right es rest right) ∙ ap₂ Done (header-size es rest) (header-numbers es rest)
+    header-accepts (header_octets es ++ rest) (header-right es rest right) ∙ ap₂ ok_header_read (header-size es rest) (header-numbers es rest)
 
-pub header-back : (n : Numbers) (rest : List ℕ) → header_reads (concatenation_header n ++ rest) ≡ Done 6 (Present n)
+pub header-back : (n : Numbers) (rest : List ℕ) → header_reads (concatenation_header n ++ rest) ≡ ok_header_read 6 (Some n)
 unfolding concatenation_header header_octets elements_octets last_numbers wrong_length
 header-back n rest = any-header-back (record { identifier = concatenation; octets = n.reference ∷ n.total ∷ n.number ∷ [] } ∷ []) rest refl
 
@@ -199,22 +199,22 @@ module _ (n : Numbers) where
   unfolding concatenation_header header_octets elements_octets right_header header_body elements_of elements_up_to wrong_length
   concatenation-right = refl
 
-  pub concatenation-numbers : header_numbers (concatenation_header n) ≡ Present n
+  pub concatenation-numbers : header_numbers (concatenation_header n) ≡ Some n
   unfolding concatenation_header header_octets elements_octets header_numbers header_body elements_of elements_up_to last_numbers
   concatenation-numbers = refl
 
 -- ---- several elements
 
-pub last-counts : (found : Concatenation) (es : List Element) (e : Element) → e.identifier ≡ concatenation → last_numbers found (es ++ (e ∷ [])) ≡ Present (numbers_of e)
+pub last-counts : (found : Option Numbers) (es : List Element) (e : Element) → e.identifier ≡ concatenation → last_numbers found (es ++ (e ∷ [])) ≡ Some (numbers_of e)
 unfolding last_numbers
 last-counts found [] e i = rw (eq-eqb e.identifier concatenation i)
-last-counts found (f ∷ es) e i = last-counts (cond (eqb f.identifier concatenation) (Present (numbers_of f)) found) es e i
+last-counts found (f ∷ es) e i = last-counts (cond (eqb f.identifier concatenation) (Some (numbers_of f)) found) es e i
 
 module _ (e : Element) (other : e.identifier ≡ concatenation → ⊥) (gs : List Element) where
-  pub other-passed : (found : Concatenation) (fs : List Element) → last_numbers found (fs ++ (e ∷ gs)) ≡ last_numbers found (fs ++ gs)
+  pub other-passed : (found : Option Numbers) (fs : List Element) → last_numbers found (fs ++ (e ∷ gs)) ≡ last_numbers found (fs ++ gs)
   unfolding last_numbers
-  other-passed found [] = ap (λ (t : Bool). last_numbers (cond t (Present (numbers_of e)) found) gs) (ne_eqb e.identifier concatenation other)
-  other-passed found (f ∷ fs) = other-passed (cond (eqb f.identifier concatenation) (Present (numbers_of f)) found) fs
+  other-passed found [] = ap (λ (t : Bool). last_numbers (cond t (Some (numbers_of e)) found) gs) (ne_eqb e.identifier concatenation other)
+  other-passed found (f ∷ fs) = other-passed (cond (eqb f.identifier concatenation) (Some (numbers_of f)) found) fs
 
   pub other-right : (fs : List Element) → wrong_length (fs ++ (e ∷ gs)) ≡ wrong_length (fs ++ gs)
   unfolding wrong_length

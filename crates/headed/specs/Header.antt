@@ -20,14 +20,13 @@
 --   header_reads o               == what read_header answers
 --   concatenation_header n       == the header that gives these numbers and nothing else
 --   septets_over h               == how many septets a header of h octets takes: those that it reaches into
-use Rattle.std.specs.Prelude.{ℕ, zero, suc, ◌+◌, ◌*◌, ◌/◌, Bool, true, false, not, cond, ◌&&◌, ◌||◌, List, [], ◌∷◌, ◌++◌, ltb, leb, eqb, length, get_or, take, drop}
+use Rattle.std.specs.Prelude.{ℕ, zero, suc, ◌+◌, ◌*◌, ◌/◌, Bool, true, false, not, cond, ◌&&◌, ◌||◌, List, [], ◌∷◌, ◌++◌, ltb, leb, eqb, length, get_or, take, drop, Result, Option, Err, Some, None}
 use Rattle.words.specs.declared.Refusal.TheVariants.{WrongHeader}
 use Rattle.words.specs.Judging.{Rule, when, verdict, settle}
 use Rattle.headed.specs.declared.Numbers.{Numbers}
-use Rattle.headed.specs.declared.Concatenation.{Concatenation}
-use Rattle.headed.specs.declared.Concatenation.TheVariants.{Absent, Present}
 use Rattle.headed.specs.declared.HeaderRead.{HeaderRead}
-use Rattle.headed.specs.declared.HeaderRead.TheVariants.{Done, Refused}
+use Rattle.words.specs.declared.Refusal.{Refusal}
+use Rattle.headed.specs.Successes.{ok_header_read}
 
 pub record Element : Type 0 where
   pub identifier : ℕ
@@ -71,9 +70,9 @@ concatenation = 0x00
 abbrev pub numbers_of : Element → Numbers
 numbers_of e = record { reference = get_or e.octets 0 0; total = get_or e.octets 1 0; number = get_or e.octets 2 0 }
 
-unfoldable pub last_numbers : Concatenation → List Element → Concatenation
+unfoldable pub last_numbers : Option Numbers → List Element → Option Numbers
 last_numbers found [] = found
-last_numbers found (e ∷ es) = last_numbers (cond (eqb e.identifier concatenation) (Present (numbers_of e)) found) es
+last_numbers found (e ∷ es) = last_numbers (cond (eqb e.identifier concatenation) (Some (numbers_of e)) found) es
 
 unfoldable pub wrong_length : List Element → Bool
 wrong_length [] = false
@@ -92,19 +91,19 @@ right_elements (whole es) = not (wrong_length es)
 unfoldable pub right_header : List ℕ → Bool
 right_header o = leb (header_size o) (length o) && right_elements (elements_of (header_body o))
 
-abbrev pub numbers_in : Elements → Concatenation
-numbers_in broken = Absent
-numbers_in (whole es) = last_numbers Absent es
+abbrev pub numbers_in : Elements → Option Numbers
+numbers_in broken = None
+numbers_in (whole es) = last_numbers None es
 
-unfoldable pub header_numbers : List ℕ → Concatenation
+unfoldable pub header_numbers : List ℕ → Option Numbers
 header_numbers o = numbers_in (elements_of (header_body o))
 
 -- 12
 unfoldable pub header_rules : List ℕ → List Rule
 header_rules o = when (not (right_header o)) WrongHeader ∷ []
 
-unfoldable pub header_reads : List ℕ → HeaderRead
-header_reads o = settle (verdict (header_rules o)) Refused (Done (header_size o) (header_numbers o))
+unfoldable pub header_reads : List ℕ → Result HeaderRead Refusal
+header_reads o = settle (verdict (header_rules o)) Err (ok_header_read (header_size o) (header_numbers o))
 
 unfoldable pub concatenation_header : Numbers → List ℕ
 concatenation_header n = header_octets (record { identifier = concatenation; octets = n.reference ∷ n.total ∷ n.number ∷ [] } ∷ [])

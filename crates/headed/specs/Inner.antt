@@ -2,20 +2,19 @@
 -- Own rule: none. Assumes nothing.
 --   found_as some n      == what was found: the numbers n where some is true, or none
 --   body_reads n found e == what reading elements answers, of a header of n octets, where so much was found before them
-use Rattle.std.specs.Prelude.{ℕ, Bool, true, false, [], ◌∷◌}
+use Rattle.std.specs.Prelude.{ℕ, Bool, true, false, [], ◌∷◌, Result, Option, Err, Some, None}
 use Rattle.words.specs.declared.Refusal.TheVariants.{WrongHeader}
 use Rattle.words.specs.Judging.{when, verdict, settle}
 use Rattle.headed.specs.declared.Numbers.{Numbers}
-use Rattle.headed.specs.declared.Concatenation.{Concatenation}
-use Rattle.headed.specs.declared.Concatenation.TheVariants.{Absent, Present}
 use Rattle.headed.specs.declared.HeaderRead.{HeaderRead}
-use Rattle.headed.specs.declared.HeaderRead.TheVariants.{Done, Refused}
 use Rattle.headed.specs.Header.{Elements, broken, whole, wrong_length, last_numbers}
+use Rattle.words.specs.declared.Refusal.{Refusal}
+use Rattle.headed.specs.Successes.{ok_header_read}
 
-abbrev pub found_as : Bool → Numbers → Concatenation
-found_as true n = Present n
-found_as false n = Absent
+abbrev pub found_as : Bool → Numbers → Option Numbers
+found_as true n = Some n
+found_as false n = None
 
-abbrev pub body_reads : ℕ → Concatenation → Elements → HeaderRead
-body_reads n found broken = Refused WrongHeader
-body_reads n found (whole es) = settle (verdict (when (wrong_length es) WrongHeader ∷ [])) Refused (Done n (last_numbers found es))
+abbrev pub body_reads : ℕ → Option Numbers → Elements → Result HeaderRead Refusal
+body_reads n found broken = Err WrongHeader
+body_reads n found (whole es) = settle (verdict (when (wrong_length es) WrongHeader ∷ [])) Err (ok_header_read n (last_numbers found es))

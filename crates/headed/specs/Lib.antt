@@ -1,2 +1,3 @@
+pub mod Successes
 pub mod Header
 pub mod Inner

@@ -12,21 +12,11 @@ pub struct Numbers {
     pub number: u8,
 }
 
-// Whether a header has that element, and what it says as it stands.
-#[derive(Clone, Copy)]
-pub enum Concatenation {
-    Absent,
-    Present(Numbers),
-}
-
 // What reading a header answers.
 #[derive(Clone, Copy)]
-pub enum HeaderRead {
-    // How many octets it takes, its length octet too, and the numbers of the part.
-    Done {
-        octets: usize,
-        concatenation: Concatenation,
-    },
-    // Why there is none.
-    Refused(Refusal),
+pub struct HeaderRead {
+    // How many octets it takes, its length octet too.
+    pub octets: usize,
+    // The numbers of the part, where the header has that element.
+    pub concatenation: Option<Numbers>,
 }

@@ -6,76 +6,76 @@ ghost use Rattle.lists.specs.Lists.{laid};
 ghost use Rattle.pages.specs.Joined.{header_at, total_at, wrong_pages, joined_from, join_answers, join_leaves};
 ghost use Rattle.pages.specs.Inner.{held_joins, held_join_leaves, text_joins, text_join_leaves, joined_as, Places};
 
-use coding::{Held, OctetRead, Reading};
+use coding::{Held, Reading};
 use pages::{Header, Joined};
-use words::{Filled, Refusal, Service};
+use words::{Refusal, Service};
 
 // Joins blocks, lent end to end in any order: the units of their text, what the coding octet says, and the header.
 // Refuses a length that is no multiple of 88 (4), no block (10), by the first block compressed text (1), a coding that holds no text (2), a prefix
 // or header mark (3), pages that are not those of one message (10), a short buffer (7). Stores the units at the front of out; a refusal stores nothing.
-pub fn join_pages(blocks: &[u8], out: &mut [u16]) -> Joined
+pub fn join_pages(blocks: &[u8], out: &mut [u16]) -> Result<Joined, Refusal>
     ensures answer { result ≡ join_answers blocks.now (length out.old) }
     ensures buffer { out.new ≡ join_leaves blocks.now out.old }
 {
     if blocks.len() % 88 != 0 {
-        return Joined::Refused(Refusal::WrongLength);
+        return Err(Refusal::WrongLength);
     }
     if blocks.len() == 0 {
-        return Joined::Refused(Refusal::WrongPages);
+        return Err(Refusal::WrongPages);
     }
     let head = blocks::read_header(blocks::block_at(blocks, 0));
     match coding::read_octet(Service::Broadcast, head.coding) {
-        OctetRead::Done(reading) => join_held(head, reading, blocks, out),
-        OctetRead::Refused(refusal) => Joined::Refused(refusal),
+        Ok(reading) => join_held(head, reading, blocks, out),
+        Err(refusal) => Err(refusal),
     }
 }
 
 // Joins behind the first block's coding octet: 1, 2, 3, 10, 7.
-fn join_held(head: Header, reading: Reading, blocks: &[u8], out: &mut [u16]) -> Joined
+fn join_held(head: Header, reading: Reading, blocks: &[u8], out: &mut [u16]) -> Result<Joined, Refusal>
     requires { (88 ≤ length blocks.now) × (head ≡ header_at blocks.now 0) }
     ensures answer { result ≡ held_joins head reading blocks.now (length out.old) }
     ensures buffer { out.new ≡ held_join_leaves reading blocks.now out.old }
 {
     match reading.holds(Service::Broadcast) {
-        Held::Septets => joined(
+        Ok(Held::Septets) => joined(
             head,
             reading,
             join_text(false, head.total as usize, blocks, out),
         ),
-        Held::Units => joined(
+        Ok(Held::Units) => joined(
             head,
             reading,
             join_text(true, head.total as usize, blocks, out),
         ),
-        Held::Refused(refusal) => Joined::Refused(refusal),
+        Err(refusal) => Err(refusal),
     }
 }
 
 // The answer of joining text, with the header and the reading.
-fn joined(head: Header, reading: Reading, answer: Filled) -> Joined
+fn joined(head: Header, reading: Reading, answer: Result<usize, Refusal>) -> Result<Joined, Refusal>
     ensures { result ≡ joined_as head reading answer }
 {
     match answer {
-        Filled::Done(units) => Joined::Done {
+        Ok(units) => Ok(Joined {
             units: units,
             reading: reading,
             sequence: head.sequence,
             identifier: head.identifier,
             pages: head.total as usize,
-        },
-        Filled::Refused(refusal) => Joined::Refused(refusal),
+        }),
+        Err(refusal) => Err(refusal),
     }
 }
 
 // Joins the text of blocks, as 7-bit text or as UCS2: 10, 7.
-fn join_text(ucs2: bool, total: usize, blocks: &[u8], out: &mut [u16]) -> Filled
+fn join_text(ucs2: bool, total: usize, blocks: &[u8], out: &mut [u16]) -> Result<usize, Refusal>
     requires { (88 ≤ length blocks.now) × (total ≡ total_at blocks.now 0) }
     ensures answer { result ≡ text_joins ucs2 blocks.now (length out.old) }
     ensures buffer { out.new ≡ text_join_leaves ucs2 blocks.now out.old }
 {
     let order = ordering::page_order(blocks);
     if !order.right {
-        return Filled::Refused(Refusal::WrongPages);
+        return Err(Refusal::WrongPages);
     }
     let places = order.places;
     if ucs2 {
@@ -85,7 +85,7 @@ fn join_text(ucs2: bool, total: usize, blocks: &[u8], out: &mut [u16]) -> Filled
 }
 
 // 7-bit text: the septets of all pages in an array of our own, without the CRs that close them, read by the alphabet.
-fn join_septets(places: [usize; 16], total: usize, blocks: &[u8], out: &mut [u16]) -> Filled
+fn join_septets(places: [usize; 16], total: usize, blocks: &[u8], out: &mut [u16]) -> Result<usize, Refusal>
     requires { (wrong_pages blocks.now ≡ false) × (total ≡ total_at blocks.now 0) × Places blocks.now places }
     ensures answer { result ≡ text_joins false blocks.now (length out.old) }
     ensures buffer { out.new ≡ text_join_leaves false blocks.now out.old }
@@ -107,12 +107,12 @@ fn unpack_pages(places: [usize; 16], total: usize, blocks: &[u8], out: &mut [u8]
         let at = 93 * k;
         k += 1;
         let block = blocks::block_at(blocks, places[k] - 1);
-        packing::unpack_all(Service::Broadcast, &block[6..], 0, &mut out[at..]);
+        let _ = packing::unpack_all(Service::Broadcast, &block[6..], 0, &mut out[at..]);
     }
 }
 
 // UCS2: the units of all pages in an array of our own, without the CRs that close them.
-fn join_units(places: [usize; 16], total: usize, blocks: &[u8], out: &mut [u16]) -> Filled
+fn join_units(places: [usize; 16], total: usize, blocks: &[u8], out: &mut [u16]) -> Result<usize, Refusal>
     requires { (wrong_pages blocks.now ≡ false) × (total ≡ total_at blocks.now 0) × Places blocks.now places }
     ensures answer { result ≡ text_joins true blocks.now (length out.old) }
     ensures buffer { out.new ≡ text_join_leaves true blocks.now out.old }

@@ -9,8 +9,6 @@ use Rattle.lists.specs.Bits.{bit_of, gather}
 use Rattle.lists.specs.Lists.{first_place, laid}
 use Rattle.lists.specs.Closing.{before_kept, without_closing}
 use Rattle.lists.proofs.Tests.{both}
-use Rattle.words.specs.declared.Filled.{Filled}
-use Rattle.words.specs.declared.Filled.TheVariants as filled
 use Rattle.words.specs.Refusals.{number_of, position_of}
 use Rattle.words.specs.Judging.{verdict}
 use Rattle.fields.specs.declared.Letters.{Letters}
@@ -22,8 +20,9 @@ use Rattle.stream.specs.Stream.{stream_bit, cut, octets_for, packed, unpacked}
 use Rattle.stream.specs.Pages.{page, page_octets}
 use Rattle.stream.specs.Ucs2.{unit_octets, octet_units}
 use Rattle.lettered.specs.declared.LetteredRead.{LetteredRead}
-use Rattle.lettered.specs.declared.LetteredRead.TheVariants as read
 use Rattle.lettered.specs.LetteredPage.{lettered_units, lettered_octets, lettered_size_rules, lettered_write_rules, lettered_writes, lettered_write_leaves, letters_in, closed_by_cr, wrong_letters, lettered_text, lettered_read_rules, lettered_reads, lettered_read_leaves}
+use Rattle.std.specs.Prelude.{Result, Ok, Err}
+use Rattle.words.specs.declared.Refusal.{Refusal}
 
 abbrev pub same : List ℕ → List ℕ → Bool
 same [] [] = true
@@ -47,21 +46,21 @@ pub data Case : Type 0 where
 abbrev lent : List ℕ
 lent = replicate 93 0xff
 
-wrote : Filled → List ℕ → List ℕ → Bool
-wrote (filled.Done n) left octets = both (eqb n (length octets)) (same left (laid octets lent))
-wrote (filled.Refused q) left octets = false
+wrote : Result ℕ Refusal → List ℕ → List ℕ → Bool
+wrote (Ok n) left octets = both (eqb n (length octets)) (same left (laid octets lent))
+wrote (Err q) left octets = false
 
-refused_as : Filled → ℕ → ℕ → Bool
-refused_as (filled.Done n) number position = false
-refused_as (filled.Refused q) number position = both (eqb (number_of q) number) (eqb (position_of q) position)
+refused_as : Result ℕ Refusal → ℕ → ℕ → Bool
+refused_as (Ok n) number position = false
+refused_as (Err q) number position = both (eqb (number_of q) number) (eqb (position_of q) position)
 
-was : LetteredRead → List ℕ → Letters → List ℕ → Bool
-was (read.Done n m) left l text = both (both (eqb m.first l.first) (eqb m.second l.second)) (both (eqb n (length text)) (same left (laid text lent)))
-was (read.Refused q) left l text = false
+was : Result LetteredRead Refusal → List ℕ → Letters → List ℕ → Bool
+was (Ok got) left l text = both (both (eqb got.letters.first l.first) (eqb got.letters.second l.second)) (both (eqb got.units (length text)) (same left (laid text lent)))
+was (Err q) left l text = false
 
-was_refused : LetteredRead → ℕ → Bool
-was_refused (read.Done n m) number = false
-was_refused (read.Refused q) number = eqb (number_of q) number
+was_refused : Result LetteredRead Refusal → ℕ → Bool
+was_refused (Ok got) number = false
+was_refused (Err q) number = eqb (number_of q) number
 
 pub holds : Case → Bool
 holds (writes ucs2 l text octets) = wrote (lettered_writes ucs2 l text (length lent)) (lettered_write_leaves ucs2 l text lent) octets

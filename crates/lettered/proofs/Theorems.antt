@@ -33,10 +33,9 @@ use Rattle.lists.specs.Closing.{without_closing}
 use Rattle.words.specs.declared.Service.TheVariants.{Broadcast}
 use Rattle.words.specs.declared.Refusal.{Refusal}
 use Rattle.words.specs.declared.Refusal.TheVariants.{WrongLength, WrongLetters, Unlisted, TooLong, NoRoom}
-use Rattle.words.specs.declared.Filled.TheVariants as filled
 use Rattle.words.specs.Judging.{when, Verdict, refused, accepted, verdict, settle}
 use Rattle.words.proofs.Judging.{settle-given}
-use Rattle.words.proofs.Rules.{gives, given-iff, accepted-iff, settle-refused-iff, settle-given-iff, filled_told}
+use Rattle.words.proofs.Rules.{gives, given-iff, accepted-iff, settle-refused-iff, settle-given-iff, ok-inside, verdict_of}
 use Rattle.lists.proofs.Below.{Below}
 use Rattle.lists.proofs.Tests.{and_right}
 use Rattle.fields.specs.declared.Letters.{Letters}
@@ -53,16 +52,12 @@ use Rattle.stream.proofs.Pages.{over-closing, over-same}
 use Rattle.stream.proofs.Calls.{fit-page}
 use Rattle.stream.proofs.Theorems.{pack-spare, unpack-spare}
 use Rattle.lettered.specs.declared.LetteredRead.{LetteredRead}
-use Rattle.lettered.specs.declared.LetteredRead.TheVariants as read
 use Rattle.lettered.specs.LetteredPage.{room_septets, room_units, lettered_octets, lettered_size_rules, lettered_write_rules, lettered_writes, lettered_write_leaves, letters_in, closed_by_cr, wrong_letters, lettered_text, lettered_read_rules, lettered_reads, lettered_read_leaves}
 use Rattle.lettered.proofs.Texts.{held_of, closed-text, closed-content}
 use Rattle.lettered.proofs.Pages.{room_of, room-held, filling, filling-length, filling-below, framed, lettered-framed, behind, text-behind, framed-length, framed-letters, framed-cr, framed-behind}
 use Rattle.lettered.proofs.Spare.{unpadded, low_same}
-
--- the verdict that an answer of reading tells
-abbrev read_told : LetteredRead → Verdict
-read_told (read.Done n l) = accepted
-read_told (read.Refused q) = refused q
+use Rattle.std.specs.Prelude.{Result, Ok, Err}
+use Rattle.lettered.specs.Successes.{ok_lettered_read}
 
 -- letters and a text that a page can be written of, where there is room for its octets
 pub record WritablePage (ucs2 : Bool) (l : Letters) (t : List ℕ) : Type 0 where
@@ -181,11 +176,11 @@ spare-bits-read count o out = rw ((spare-bits-ignored o).0, (spare-bits-ignored 
 -- ---- the writer
 
 module _ (ucs2 : Bool) (l : Letters) (t : List ℕ) (room : ℕ) where
-  write-refused-iff : (q : Refusal) → (lettered_writes ucs2 l t room ≡ filled.Refused q) ↔ (verdict (lettered_write_rules ucs2 l t room) ≡ refused q)
+  write-refused-iff : (q : Refusal) → (lettered_writes ucs2 l t room ≡ Err q) ↔ (verdict (lettered_write_rules ucs2 l t room) ≡ refused q)
   unfolding lettered_writes
-  write-refused-iff = settle-refused-iff filled_told filled.Refused (filled.Done (length (lettered_octets ucs2 l t))) (λ r. refl) refl (verdict (lettered_write_rules ucs2 l t room))
+  write-refused-iff = settle-refused-iff verdict_of Err (Ok (length (lettered_octets ucs2 l t))) (λ r. refl) refl (verdict (lettered_write_rules ucs2 l t room))
 
-  pub write-refuses-letters-iff : (lettered_writes ucs2 l t room ≡ filled.Refused WrongLetters) ↔ (are_letters l ≡ false)
+  pub write-refuses-letters-iff : (lettered_writes ucs2 l t room ≡ Err WrongLetters) ↔ (are_letters l ≡ false)
   unfolding lettered_write_rules lettered_size_rules gives verdict
   write-refuses-letters-iff =
       let answer = write-refused-iff WrongLetters in
@@ -217,25 +212,22 @@ module _ (ucs2 : Bool) (l : Letters) (t : List ℕ) (room : ℕ) where
           let some : length (lettered_octets ucs2 l t) ≤ room = omega (arith, lettered-length ucs2 l t w.sized) in
           simp (w.letters, w.codable, w.sized, le-ltb _ _ some)
 
-  pub write-accepts-iff : (n : ℕ) → (lettered_writes ucs2 l t room ≡ filled.Done n) ↔ (WritablePage ucs2 l t × (82 ≤ room) × (n ≡ 82))
+  pub write-accepts-iff : (n : ℕ) → (lettered_writes ucs2 l t room ≡ Ok n) ↔ (WritablePage ucs2 l t × (82 ≤ room) × (n ≡ 82))
   unfolding lettered_writes
   write-accepts-iff n =
-      let answer = settle-given-iff filled_told filled.Refused (filled.Done (length (lettered_octets ucs2 l t))) (λ r. refl) refl (verdict (lettered_write_rules ucs2 l t room)) (filled.Done n) refl in (
+      let answer = settle-given-iff verdict_of Err (Ok (length (lettered_octets ucs2 l t))) (λ r. refl) refl (verdict (lettered_write_rules ucs2 l t room)) (Ok n) refl in (
         λ e. let a = answer.0 e in
             let w = write-rules-iff.0 a.0 in
-            (w.0, w.1, done n (length (lettered_octets ucs2 l t)) a.1 ∙ lettered-length ucs2 l t w.0.sized),
-        λ w. answer.1 (write-rules-iff.1 (w.0, w.1), ap filled.Done (w.2 ∙ sym (lettered-length ucs2 l t w.0.sized))),
+            (w.0, w.1, ok-inside a.1 ∙ lettered-length ucs2 l t w.0.sized),
+        λ w. answer.1 (write-rules-iff.1 (w.0, w.1), ap Ok (w.2 ∙ sym (lettered-length ucs2 l t w.0.sized))),
       )
-    where
-      done : (n m : ℕ) → filled.Done n ≡ filled.Done m → n ≡ m
-      done n m e = cc
 
 module _ (ucs2 : Bool) (l : Letters) (t out : List ℕ) where
   pub write-leaves : WritablePage ucs2 l t → 82 ≤ length out → lettered_write_leaves ucs2 l t out ≡ laid (lettered_octets ucs2 l t) out
   unfolding lettered_write_leaves
   write-leaves w h = settle-given (verdict (lettered_write_rules ucs2 l t (length out))) (λ q. out) (laid (lettered_octets ucs2 l t) out) ((write-rules-iff ucs2 l t (length out)).1 (w, h))
 
-  pub write-refuses-kept : (q : Refusal) → lettered_writes ucs2 l t (length out) ≡ filled.Refused q → lettered_write_leaves ucs2 l t out ≡ out
+  pub write-refuses-kept : (q : Refusal) → lettered_writes ucs2 l t (length out) ≡ Err q → lettered_write_leaves ucs2 l t out ≡ out
   unfolding lettered_write_leaves
   write-refuses-kept q e = ap (λ (v : Verdict). settle v (λ q. out) (laid (lettered_octets ucs2 l t) out)) ((write-refused-iff ucs2 l t (length out) q).0 e)
 
@@ -249,11 +241,11 @@ fits_iff m n = (
 )
 
 module _ (ucs2 : Bool) (count : ℕ) (o : List ℕ) (room : ℕ) where
-  read-refused-iff : (q : Refusal) → (lettered_reads ucs2 count o room ≡ read.Refused q) ↔ (verdict (lettered_read_rules ucs2 count o room) ≡ refused q)
+  read-refused-iff : (q : Refusal) → (lettered_reads ucs2 count o room ≡ Err q) ↔ (verdict (lettered_read_rules ucs2 count o room) ≡ refused q)
   unfolding lettered_reads
-  read-refused-iff = settle-refused-iff read_told read.Refused (read.Done (length (lettered_text ucs2 o)) (letters_in o)) (λ r. refl) refl (verdict (lettered_read_rules ucs2 count o room))
+  read-refused-iff = settle-refused-iff verdict_of Err (ok_lettered_read (length (lettered_text ucs2 o)) (letters_in o)) (λ r. refl) refl (verdict (lettered_read_rules ucs2 count o room))
 
-  pub read-refuses-letters-iff : (lettered_reads ucs2 count o room ≡ read.Refused WrongLetters) ↔ ((length o ≡ 82) × (count ≡ 0) × (wrong_letters ucs2 o ≡ true))
+  pub read-refuses-letters-iff : (lettered_reads ucs2 count o room ≡ Err WrongLetters) ↔ ((length o ≡ 82) × (count ≡ 0) × (wrong_letters ucs2 o ≡ true))
   unfolding lettered_read_rules gives verdict
   read-refuses-letters-iff =
       let fit : Bool = septets_fit Broadcast (length o) count in
@@ -287,32 +279,29 @@ module _ (ucs2 : Bool) (count : ℕ) (o : List ℕ) (room : ℕ) where
       from : ReadablePage ucs2 count o room → verdict (lettered_read_rules ucs2 count o room) ≡ accepted
       from w = simp ((fits_iff (length o) count).1 (w.whole, w.uncounted), w.right, le-ltb _ _ w.fits)
 
-  pub read-accepts-iff : (n : ℕ) (l : Letters) → (lettered_reads ucs2 count o room ≡ read.Done n l) ↔ (ReadablePage ucs2 count o room × (n ≡ length (lettered_text ucs2 o)) × (l ≡ letters_in o))
+  pub read-accepts-iff : (n : ℕ) (l : Letters) → (lettered_reads ucs2 count o room ≡ ok_lettered_read n l) ↔ (ReadablePage ucs2 count o room × (n ≡ length (lettered_text ucs2 o)) × (l ≡ letters_in o))
   unfolding lettered_reads
   read-accepts-iff n l =
-      let answer = settle-given-iff read_told read.Refused (read.Done (length (lettered_text ucs2 o)) (letters_in o)) (λ r. refl) refl (verdict (lettered_read_rules ucs2 count o room)) (read.Done n l) refl in (
+      let answer = settle-given-iff verdict_of Err (ok_lettered_read (length (lettered_text ucs2 o)) (letters_in o)) (λ r. refl) refl (verdict (lettered_read_rules ucs2 count o room)) (ok_lettered_read n l) refl in (
         λ e. let a = answer.0 e in
-            let d = done n (length (lettered_text ucs2 o)) l (letters_in o) a.1 in
-            (read-rules-iff.0 a.0, d.0, d.1),
-        λ w. answer.1 (read-rules-iff.1 w.0, ap₂ read.Done w.1 w.2),
+            let same = ok-inside a.1 in
+            (read-rules-iff.0 a.0, ap (λ (m : LetteredRead). m.units) same, ap (λ (m : LetteredRead). m.letters) same),
+        λ w. answer.1 (read-rules-iff.1 w.0, ap₂ ok_lettered_read w.1 w.2),
       )
-    where
-      done : (n m : ℕ) (k l : Letters) → read.Done n k ≡ read.Done m l → (n ≡ m) × (k ≡ l)
-      done n m k l e = (cc, cc)
 
 module _ (ucs2 : Bool) (count : ℕ) (o out : List ℕ) where
   pub read-leaves : ReadablePage ucs2 count o (length out) → lettered_read_leaves ucs2 count o out ≡ laid (lettered_text ucs2 o) out
   unfolding lettered_read_leaves
   read-leaves w = settle-given (verdict (lettered_read_rules ucs2 count o (length out))) (λ q. out) (laid (lettered_text ucs2 o) out) ((read-rules-iff ucs2 count o (length out)).1 w)
 
-  pub read-refuses-kept : (q : Refusal) → lettered_reads ucs2 count o (length out) ≡ read.Refused q → lettered_read_leaves ucs2 count o out ≡ out
+  pub read-refuses-kept : (q : Refusal) → lettered_reads ucs2 count o (length out) ≡ Err q → lettered_read_leaves ucs2 count o out ≡ out
   unfolding lettered_read_leaves
   read-refuses-kept q e = ap (λ (v : Verdict). settle v (λ q. out) (laid (lettered_text ucs2 o) out)) ((read-refused-iff ucs2 count o (length out) q).0 e)
 
 -- ---- what was written is read
 
 pub lettered-written-read : (ucs2 : Bool) (l : Letters) (t out : List ℕ) → WritablePage ucs2 l t → length (without_closing 0x000d t) ≤ length out
-    → (lettered_reads ucs2 0 (lettered_octets ucs2 l t) (length out) ≡ read.Done (length (without_closing 0x000d t)) l)
+    → (lettered_reads ucs2 0 (lettered_octets ucs2 l t) (length out) ≡ ok_lettered_read (length (without_closing 0x000d t)) l)
     × (lettered_read_leaves ucs2 0 (lettered_octets ucs2 l t) out ≡ laid (without_closing 0x000d t) out)
 lettered-written-read ucs2 l t out w h =
     let o : List ℕ = lettered_octets ucs2 l t in

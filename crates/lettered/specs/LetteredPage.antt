@@ -17,13 +17,11 @@
 --   lettered_writes, lettered_write_leaves    == what write_lettered answers, and what it leaves in the lent buffer
 --   lettered_read_rules                       == octets: 4, 11, 7
 --   lettered_reads, lettered_read_leaves      == what read_lettered answers, and what it leaves in the lent buffer
-use Rattle.std.specs.Prelude.{ℕ, Bool, not, cond, ◌&&◌, ◌||◌, List, [], ◌∷◌, ◌++◌, ltb, eqb, length, drop, get_or, replicate}
+use Rattle.std.specs.Prelude.{ℕ, Bool, not, cond, ◌&&◌, ◌||◌, List, [], ◌∷◌, ◌++◌, ltb, eqb, length, drop, get_or, replicate, Result, Ok, Err}
 use Rattle.lists.specs.Lists.{laid}
 use Rattle.lists.specs.Closing.{without_closing}
 use Rattle.words.specs.declared.Service.TheVariants.{Broadcast}
 use Rattle.words.specs.declared.Refusal.TheVariants.{WrongLength, WrongLetters, NoRoom}
-use Rattle.words.specs.declared.Filled.{Filled}
-use Rattle.words.specs.declared.Filled.TheVariants as filled
 use Rattle.words.specs.Judging.{Rule, when, verdict, settle}
 use Rattle.words.specs.Sizes.{most_septets}
 use Rattle.fields.specs.declared.Letters.{Letters}
@@ -37,7 +35,8 @@ use Rattle.stream.specs.Pages.{page_octets}
 use Rattle.stream.specs.Ucs2.{unit_octets, octet_units}
 use Rattle.stream.specs.SeptetCalls.{septets_fit}
 use Rattle.lettered.specs.declared.LetteredRead.{LetteredRead}
-use Rattle.lettered.specs.declared.LetteredRead.TheVariants as read
+use Rattle.words.specs.declared.Refusal.{Refusal}
+use Rattle.lettered.specs.Successes.{ok_lettered_read}
 
 -- 93 septets less two letters and their CR; 41 units less the two octets of the letters
 abbrev pub room_septets : ℕ
@@ -67,9 +66,9 @@ lettered_size_rules ucs2 l units room = sized_rules room_septets room_units ucs2
 unfoldable pub lettered_write_rules : Bool → Letters → List ℕ → ℕ → List Rule
 lettered_write_rules ucs2 l units room = when (not (are_letters l)) WrongLetters ∷ lettered_size_rules ucs2 l units room
 
-unfoldable pub lettered_writes : Bool → Letters → List ℕ → ℕ → Filled
+unfoldable pub lettered_writes : Bool → Letters → List ℕ → ℕ → Result ℕ Refusal
 lettered_writes ucs2 l units room =
-    settle (verdict (lettered_write_rules ucs2 l units room)) filled.Refused (filled.Done (length (lettered_octets ucs2 l units)))
+    settle (verdict (lettered_write_rules ucs2 l units room)) Err (Ok (length (lettered_octets ucs2 l units)))
 
 unfoldable pub lettered_write_leaves : Bool → Letters → List ℕ → List ℕ → List ℕ
 lettered_write_leaves ucs2 l units out =
@@ -98,9 +97,9 @@ lettered_read_rules ucs2 count o room =
     ∷ when (ltb room (length (lettered_text ucs2 o))) NoRoom
     ∷ []
 
-unfoldable pub lettered_reads : Bool → ℕ → List ℕ → ℕ → LetteredRead
+unfoldable pub lettered_reads : Bool → ℕ → List ℕ → ℕ → Result LetteredRead Refusal
 lettered_reads ucs2 count o room =
-    settle (verdict (lettered_read_rules ucs2 count o room)) read.Refused (read.Done (length (lettered_text ucs2 o)) (letters_in o))
+    settle (verdict (lettered_read_rules ucs2 count o room)) Err (ok_lettered_read (length (lettered_text ucs2 o)) (letters_in o))
 
 unfoldable pub lettered_read_leaves : Bool → ℕ → List ℕ → List ℕ → List ℕ
 lettered_read_leaves ucs2 count o out =

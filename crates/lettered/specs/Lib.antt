@@ -1,1 +1,2 @@
+pub mod Successes
 pub mod LetteredPage

@@ -6,9 +6,8 @@ use words::Refusal;
 
 // What reading such a page answers.
 #[derive(Clone, Copy)]
-pub enum LetteredRead {
-    // How many units it stored at the front of the lent buffer, and the letters.
-    Done { units: usize, letters: Letters },
-    // Why it stored none.
-    Refused(Refusal),
+pub struct LetteredRead {
+    // How many units it stored at the front of the lent buffer.
+    pub units: usize,
+    pub letters: Letters,
 }

@@ -10,18 +10,18 @@ ghost use Rattle.lettering.specs.Inner.{behind_letters};
 
 use fields::Letters;
 use lettered::LetteredRead;
-use words::{Filled, Refusal, Service};
+use words::{Refusal, Service};
 
 // Writes a page: the octets of a text behind the letters of its language, as UCS2 or as 7-bit text with a CR behind the letters.
 // Refuses letters of which one is not a to z (11), a unit that is not in the alphabet (6, the first), a text over 90 septets or 40 units (5), a
 // short buffer (7). Stores the octets at the front of out; a refusal stores nothing.
-pub fn write_lettered(ucs2: bool, letters: Letters, units: &[u16], out: &mut [u8]) -> Filled
+pub fn write_lettered(ucs2: bool, letters: Letters, units: &[u16], out: &mut [u8]) -> Result<usize, Refusal>
     ensures answer { result ≡ lettered_writes ucs2 letters units.now (length out.old) }
     ensures buffer { out.new ≡ lettered_write_leaves ucs2 letters units.now out.old }
 {
     let named = letters.named();
     if !named {
-        return Filled::Refused(Refusal::WrongLetters);
+        return Err(Refusal::WrongLetters);
     }
     if ucs2 {
         return write_units(letters, units, out);
@@ -30,7 +30,7 @@ pub fn write_lettered(ucs2: bool, letters: Letters, units: &[u16], out: &mut [u8
 }
 
 // 7-bit text: a page of 93 CR, with the letters and the text laid over it so that one CR is left between them: 6, 5, 7.
-fn write_septets(letters: Letters, units: &[u16], out: &mut [u8]) -> Filled
+fn write_septets(letters: Letters, units: &[u16], out: &mut [u8]) -> Result<usize, Refusal>
     requires { are_letters letters ≡ true }
     ensures answer { result ≡ lettered_writes false letters units.now (length out.old) }
     ensures buffer { out.new ≡ lettered_write_leaves false letters units.now out.old }
@@ -40,25 +40,25 @@ fn write_septets(letters: Letters, units: &[u16], out: &mut [u8]) -> Filled
     page[1] = letters.second;
     let told = to_septets::encode(units, &mut page[3..]);
     if told.units < units.len() {
-        return Filled::Refused(Refusal::Unlisted { unit: told.units });
+        return Err(Refusal::Unlisted { unit: told.units });
     }
     if 90 < told.septets {
-        return Filled::Refused(Refusal::TooLong);
+        return Err(Refusal::TooLong);
     }
     packing::pack_page(page, out)
 }
 
 // UCS2: the letters as two septets, and behind them the octets of a page of units but its last: 5, 7.
-fn write_units(letters: Letters, units: &[u16], out: &mut [u8]) -> Filled
+fn write_units(letters: Letters, units: &[u16], out: &mut [u8]) -> Result<usize, Refusal>
     requires { are_letters letters ≡ true }
     ensures answer { result ≡ lettered_writes true letters units.now (length out.old) }
     ensures buffer { out.new ≡ lettered_write_leaves true letters units.now out.old }
 {
     if 40 < units.len() {
-        return Filled::Refused(Refusal::TooLong);
+        return Err(Refusal::TooLong);
     }
     if out.len() < 82 {
-        return Filled::Refused(Refusal::NoRoom);
+        return Err(Refusal::NoRoom);
     }
     let octets = from_units::page_octets(units);
     out[0] = letters.first | ((letters.second & 1) << 7);
@@ -68,13 +68,13 @@ fn write_units(letters: Letters, units: &[u16], out: &mut [u8]) -> Filled
         out[2 + i] = octets[i];
         i += 1;
     }
-    Filled::Done(82)
+    Ok(82)
 }
 
 // Reads a page: the units of its text, and the letters.
 // Refuses octets that are not 82, or a count that is not 0 (4), letters of which one is not a to z, or a CR that is missing behind them in 7-bit text
 // (11), a short buffer (7). Stores the units at the front of out; a refusal stores nothing.
-pub fn read_lettered(ucs2: bool, count: usize, octets: &[u8], out: &mut [u16]) -> LetteredRead
+pub fn read_lettered(ucs2: bool, count: usize, octets: &[u8], out: &mut [u16]) -> Result<LetteredRead, Refusal>
     ensures answer { result ≡ lettered_reads ucs2 count octets.now (length out.old) }
     ensures buffer { out.new ≡ lettered_read_leaves ucs2 count octets.now out.old }
 {
@@ -82,10 +82,10 @@ pub fn read_lettered(ucs2: bool, count: usize, octets: &[u8], out: &mut [u16]) -
     let letters = letters_in(octets);
     let spelt = letters.named();
     if !fit {
-        return LetteredRead::Refused(Refusal::WrongLength);
+        return Err(Refusal::WrongLength);
     }
     if !spelt {
-        return LetteredRead::Refused(Refusal::WrongLetters);
+        return Err(Refusal::WrongLetters);
     }
     if ucs2 {
         return read_units(letters, octets, out);
@@ -117,22 +117,22 @@ fn letters_in(octets: &[u8]) -> Letters
 }
 
 // 7-bit text behind the letters: the CR behind them, and what the 90 septets hold without the CRs that close them: 11, 7.
-fn read_septets(letters: Letters, octets: &[u8], out: &mut [u16]) -> LetteredRead
+fn read_septets(letters: Letters, octets: &[u8], out: &mut [u16]) -> Result<LetteredRead, Refusal>
     requires { (length octets.now ≡ 82) × (letters ≡ letters_in octets.now) × (are_letters letters ≡ true) }
     ensures answer { result ≡ lettered_reads false 0 octets.now (length out.old) }
     ensures buffer { out.new ≡ lettered_read_leaves false 0 octets.now out.old }
 {
     let mut septets = [0u8; 93];
-    packing::unpack_all(Service::Broadcast, octets, 0, &mut septets);
+    let _ = packing::unpack_all(Service::Broadcast, octets, 0, &mut septets);
     if septets[2] == 13 {
         let n = closing::text_length(Service::Broadcast, &septets[3..93]);
         return behind(letters, to_text::septets_to_text(&septets[3..3 + n], out));
     }
-    LetteredRead::Refused(Refusal::WrongLetters)
+    Err(Refusal::WrongLetters)
 }
 
 // UCS2 behind the letters: 40 units, without the 000D that close them: 7.
-fn read_units(letters: Letters, octets: &[u8], out: &mut [u16]) -> LetteredRead
+fn read_units(letters: Letters, octets: &[u8], out: &mut [u16]) -> Result<LetteredRead, Refusal>
     requires { (length octets.now ≡ 82) × (letters ≡ letters_in octets.now) × (are_letters letters ≡ true) }
     ensures answer { result ≡ lettered_reads true 0 octets.now (length out.old) }
     ensures buffer { out.new ≡ lettered_read_leaves true 0 octets.now out.old }
@@ -144,11 +144,11 @@ fn read_units(letters: Letters, octets: &[u8], out: &mut [u16]) -> LetteredRead
 }
 
 // The answer of reading a text behind letters, with them.
-fn behind(letters: Letters, answer: Filled) -> LetteredRead
+fn behind(letters: Letters, answer: Result<usize, Refusal>) -> Result<LetteredRead, Refusal>
     ensures { result ≡ behind_letters letters answer }
 {
     match answer {
-        Filled::Done(units) => LetteredRead::Done { units, letters },
-        Filled::Refused(refusal) => LetteredRead::Refused(refusal),
+        Ok(units) => Ok(LetteredRead { units, letters }),
+        Err(refusal) => Err(refusal),
     }
 }

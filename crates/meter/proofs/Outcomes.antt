@@ -8,7 +8,6 @@ use prog.Routine.{Routine}
 use types.Logic.{Logic}
 use contract.Monad.{Fun, fact, fact_i, fact_use}
 use Rattle.metered.specs.declared.Meter.{Meter}
-use Rattle.metered.specs.declared.Pressed.{Pressed}
 use Rattle.metered.specs.Metered.{Key, keyed, back, add as adds, clear as clears}
 use Rattle.metered.specs.Typed.{Called}
 use Rattle.words.proofs.Unique.{OneAnswer, OneResult, OneRecord}
@@ -25,6 +24,8 @@ use Rattle.meter.proofs.cleared.Reads as cleared
 use Rattle.meter.specs.contracts.add as add
 use Rattle.meter.specs.contracts.take_back as take_back
 use Rattle.meter.specs.contracts.clear as clear
+use Rattle.std.specs.Prelude.{Result}
+use Rattle.words.specs.declared.Refusal.{Refusal}
 
 pub new-meter-unique : OneAnswer new-meter-kinds.ps new-meter-kinds.r new-meter.Post
 new-meter-unique κs a x y u v p q = p ∙ sym q
@@ -45,14 +46,14 @@ cleared-unique κs a x y u v p q = p ∙ sym q
 
 module _ {M : Type 1} (𝓤 : Ura M) where
   -- what a key in place ensures of its answer and of the record at exit, as one fact
-  pub key-called : (m : Meter) (k : Key) (a : Pressed) (n : Meter) → ent 𝓤 (sep 𝓤 (fact 𝓤 (a ≡ (keyed m k).answer)) (fact 𝓤 (n ≡ (keyed m k).meter))) (fact 𝓤 (Called m k a n))
+  pub key-called : (m : Meter) (k : Key) (a : Result (Unit {0}) Refusal) (n : Meter) → ent 𝓤 (sep 𝓤 (fact 𝓤 (a ≡ (keyed m k).answer)) (fact 𝓤 (n ≡ (keyed m k).meter))) (fact 𝓤 (Called m k a n))
   key-called m k a n =
       let answer = a ≡ (keyed m k).answer in
       let after = n ≡ (keyed m k).meter in
       fact_use 𝓤 answer (fst∗ 𝓤 (fact 𝓤 answer) (fact 𝓤 after)) (λ p. fact_use 𝓤 after (snd∗ 𝓤 (fact 𝓤 answer) (fact 𝓤 after)) (λ q. fact_i 𝓤 (Called m k a n) (sep 𝓤 (fact 𝓤 answer) (fact 𝓤 after)) (p, q)))
 
   -- of two outcomes of one key on one record
-  keys-same : (m : Meter) (k : Key) (a b : Pressed) (n o : Meter) (same : Type 0) → (Called m k a n → Called m k b o → same)
+  keys-same : (m : Meter) (k : Key) (a b : Result (Unit {0}) Refusal) (n o : Meter) (same : Type 0) → (Called m k a n → Called m k b o → same)
       → ent 𝓤 (sep 𝓤 (sep 𝓤 (fact 𝓤 (a ≡ (keyed m k).answer)) (fact 𝓤 (n ≡ (keyed m k).meter))) (sep 𝓤 (fact 𝓤 (b ≡ (keyed m k).answer)) (fact 𝓤 (o ≡ (keyed m k).meter)))) (fact 𝓤 same)
   keys-same m k a b n o same f =
       let one = sep 𝓤 (fact 𝓤 (a ≡ (keyed m k).answer)) (fact 𝓤 (n ≡ (keyed m k).meter)) in

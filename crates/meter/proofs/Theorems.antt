@@ -15,7 +15,6 @@ use denote.MutBor.{MutBor}
 use denote.Triple.Clauses.{AtExit}
 use Rattle.metered.specs.declared.Meter.{Meter}
 use Rattle.metered.specs.declared.Keyed.{Keyed}
-use Rattle.metered.specs.declared.Pressed.{Pressed}
 use Rattle.metered.specs.Metered.{Key, keyed, back, add as adds, clear as clears}
 use Rattle.metered.specs.Typed.{Called}
 use Rattle.meter.proofs.Outcomes.{key-called}
@@ -25,8 +24,10 @@ use Rattle.meter.proofs.cleared.Reads as cleared
 use Rattle.meter.specs.contracts.add as add
 use Rattle.meter.specs.contracts.take_back as take_back
 use Rattle.meter.specs.contracts.clear as clear
+use Rattle.std.specs.Prelude.{Result}
+use Rattle.words.specs.declared.Refusal.{Refusal}
 
-module _ {M : Type 1} {𝓤 : Ura M} (𝓛 : Logic 𝓤) (mem : Memory → SProp 𝓤) (run : Routine → Fun 𝓤) (κs : Lfts 1) (meter : MutBor Meter) (answer : Pressed) where
+module _ {M : Type 1} {𝓤 : Ura M} (𝓛 : Logic 𝓤) (mem : Memory → SProp 𝓤) (run : Routine → Fun 𝓤) (κs : Lfts 1) (meter : MutBor Meter) (answer : Result (Unit {0}) Refusal) where
   pub add-called : (unit : ℕ) (u : AtExit add.ended κs) → ent 𝓤 ((add.clauses 𝓛 mem run κs (meter, (unit, tt))).ensures tt answer u) (fact 𝓤 (Called meter.now (adds unit) answer u.0.now))
   add-called unit u = key-called 𝓤 meter.now (adds unit) answer u.0.now
 

@@ -6,7 +6,7 @@ ghost use Rattle.std.specs.Prelude.{true, ◌≡◌, ◌≤◌};
 ghost use Rattle.metered.specs.Metered.{add, back, clear, new_meter, remains, unit_septets, refused_key, keyed};
 ghost use Rattle.metered.specs.Inner.{less_or, judged_as};
 
-use metered::{Keyed, Meter, Pressed};
+use metered::{Keyed, Meter};
 use words::{Refusal, Service};
 
 // A meter for a service: nothing is typed yet.
@@ -55,12 +55,12 @@ pub fn cleared(meter: Meter) -> Keyed
     let empty = new_meter(service);
     Keyed {
         meter: empty,
-        answer: Pressed::Went,
+        answer: Ok(()),
     }
 }
 
 // `added`, in place.
-pub fn add(meter: &mut Meter, unit: u16) -> Pressed
+pub fn add(meter: &mut Meter, unit: u16) -> Result<(), Refusal>
     ensures answer { result ≡ (keyed meter.old (add unit)).answer }
     ensures record { meter.new ≡ (keyed meter.old (add unit)).meter }
 {
@@ -70,7 +70,7 @@ pub fn add(meter: &mut Meter, unit: u16) -> Pressed
 }
 
 // `taken_back`, in place.
-pub fn take_back(meter: &mut Meter, unit: u16) -> Pressed
+pub fn take_back(meter: &mut Meter, unit: u16) -> Result<(), Refusal>
     ensures answer { result ≡ (keyed meter.old (back unit)).answer }
     ensures record { meter.new ≡ (keyed meter.old (back unit)).meter }
 {
@@ -80,7 +80,7 @@ pub fn take_back(meter: &mut Meter, unit: u16) -> Pressed
 }
 
 // `cleared`, in place.
-pub fn clear(meter: &mut Meter) -> Pressed
+pub fn clear(meter: &mut Meter) -> Result<(), Refusal>
     ensures answer { result ≡ (keyed meter.old clear).answer }
     ensures record { meter.new ≡ (keyed meter.old clear).meter }
 {
@@ -150,7 +150,7 @@ fn judged(meter: Meter, septets: u64, sum: u64) -> Keyed
     }
     Keyed {
         meter: next,
-        answer: Pressed::Went,
+        answer: Ok(()),
     }
 }
 
@@ -160,6 +160,6 @@ fn refused(meter: Meter, refusal: Refusal) -> Keyed
 {
     Keyed {
         meter: meter,
-        answer: Pressed::Refused(refusal),
+        answer: Err(refusal),
     }
 }

@@ -32,9 +32,9 @@ use Rattle.letters.specs.Writing.{listed_as, is_unlisted, septets_for, septets_i
 use Rattle.letters.proofs.Texts.{codable-told, codable-snoc}
 use Rattle.letters.proofs.Theorems.{Codable, codable-front, septets-last}
 use Rattle.metered.specs.declared.Meter.{Meter}
-use Rattle.metered.specs.declared.Pressed.TheVariants.{Went}
 use Rattle.metered.specs.Metered.{add, back, clear, no_sum, new_meter, remains, refused_key, keyed, unit_septets}
 use Rattle.metered.specs.Inner.{less_or, judged_as}
+use Rattle.std.specs.Prelude.{Ok}
 
 -- ---- sums
 
@@ -120,8 +120,8 @@ septets-two u = two-most (listed_as u)
 
 -- a sum that is told as n
 judged : (m : Meter) (unlisted : Bool) (z : ℤ) (n : ℕ) → no_sum z ≡ ltb 65535 n → (n ≤ 65535 → z ≡ pos n)
-    → settle (verdict (when unlisted (UnlistedUnit 0) ∷ when (no_sum z) TooLong ∷ [])) (refused_key m) (record { meter = record { service = m.service; used = nat_abs z }; answer = Went })
-    ≡ settle (verdict (when unlisted (UnlistedUnit 0) ∷ when (ltb 65535 n) TooLong ∷ [])) (refused_key m) (record { meter = record { service = m.service; used = n }; answer = Went })
+    → settle (verdict (when unlisted (UnlistedUnit 0) ∷ when (no_sum z) TooLong ∷ [])) (refused_key m) (record { meter = record { service = m.service; used = nat_abs z }; answer = (Ok tt) })
+    ≡ settle (verdict (when unlisted (UnlistedUnit 0) ∷ when (ltb 65535 n) TooLong ∷ [])) (refused_key m) (record { meter = record { service = m.service; used = n }; answer = (Ok tt) })
 unfolding verdict
 judged m true z n e f = refl
 judged m false z n e f =
@@ -142,7 +142,7 @@ back-judged m u =
     rw (unlisted-none (listed_as u))
     (judged m (ltb (unit_septets u) 1) (pos m.used -ℤ pos (unit_septets u)) (less_or m.used (unit_septets u)) (less_none m.used (unit_septets u)) (less-sum m.used (unit_septets u)))
 
-pub clear-keyed : (m : Meter) → keyed m clear ≡ record { meter = new_meter m.service; answer = Went }
+pub clear-keyed : (m : Meter) → keyed m clear ≡ record { meter = new_meter m.service; answer = (Ok tt) }
 unfolding keyed verdict
 clear-keyed m = refl
 

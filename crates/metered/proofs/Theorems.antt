@@ -32,21 +32,20 @@ use Rattle.letters.proofs.Texts.{codable-snoc, codable-front}
 use Rattle.letters.proofs.Theorems.{Codable, septets-last}
 use Rattle.metered.specs.declared.Meter.{Meter}
 use Rattle.metered.specs.declared.Keyed.{Keyed}
-use Rattle.metered.specs.declared.Pressed.{Pressed}
-use Rattle.metered.specs.declared.Pressed.TheVariants.{Went, Refused}
 use Rattle.metered.specs.Metered.{Key, add, back, clear, new_meter, remains, unit_septets, of_unlisted, sum_after, no_sum, key_rules, refused_key, keyed}
 use Rattle.metered.specs.Typed.{Called, Follows, Step, Types, last_meter, last_text}
 use Rattle.metered.proofs.Keys.{back_sum, back_below, sum-none, clear-keyed}
+use Rattle.std.specs.Prelude.{Result, Ok, Err}
 
 -- ---- one key
 
 -- the verdict that a key's answer tells
-abbrev told : Pressed → Verdict
-told Went = accepted
-told (Refused r) = refused r
+abbrev told : Result (Unit {0}) Refusal → Verdict
+told (Ok tt) = accepted
+told (Err r) = refused r
 
 abbrev gone_to : Meter → Key → Keyed
-gone_to m k = record { meter = record { service = m.service; used = nat_abs (sum_after m k) }; answer = Went }
+gone_to m k = record { meter = record { service = m.service; used = nat_abs (sum_after m k) }; answer = (Ok tt) }
 
 by-verdict : (m : Meter) (k : Key) → verdict (key_rules m k) ≡ told (keyed m k).answer
 unfolding keyed
@@ -71,20 +70,20 @@ refuses-5-iff m k =
     let five = refused-by m k TooLong in
     (λ e. let g = rule.0 (five.0 e) in ((listed.0 g.0).0, g.1), λ e. five.1 (rule.1 (listed.1 (e.0, refl), e.1)))
 
-pub goes-iff : (m : Meter) (k : Key) → ((keyed m k).answer ≡ Went) ↔ ((of_unlisted k ≡ false) × (no_sum (sum_after m k) ≡ false))
+pub goes-iff : (m : Meter) (k : Key) → ((keyed m k).answer ≡ (Ok tt)) ↔ ((of_unlisted k ≡ false) × (no_sum (sum_after m k) ≡ false))
 unfolding keyed verdict
 goes-iff m k =
     let six = accepted-iff (of_unlisted k) (Unlisted 0) (when (no_sum (sum_after m k)) TooLong ∷ []) in
     let five = accepted-iff (no_sum (sum_after m k)) TooLong [] in
     (λ e. let g = six.0 (by-verdict m k ∙ ap told e) in (g.0, (five.0 g.1).0), λ e. ap (λ (v : Verdict). (settle v (refused_key m) (gone_to m k)).answer) (six.1 (e.0, five.1 (e.1, refl))))
 
-pub refused-kept : (m : Meter) (k : Key) (r : Refusal) → (keyed m k).answer ≡ Refused r → (keyed m k).meter ≡ m
+pub refused-kept : (m : Meter) (k : Key) (r : Refusal) → (keyed m k).answer ≡ Err r → (keyed m k).meter ≡ m
 refused-kept m k r e = ap (λ (x : Keyed). x.meter) ((refused-by m k r).1 (by-verdict m k ∙ ap told e))
 
-pub clears : (m : Meter) → keyed m clear ≡ record { meter = new_meter m.service; answer = Went }
+pub clears : (m : Meter) → keyed m clear ≡ record { meter = new_meter m.service; answer = (Ok tt) }
 clears m = clear-keyed m
 
-went_to : (m : Meter) (k : Key) → (keyed m k).answer ≡ Went → (keyed m k).meter ≡ record { service = m.service; used = nat_abs (sum_after m k) }
+went_to : (m : Meter) (k : Key) → (keyed m k).answer ≡ (Ok tt) → (keyed m k).meter ≡ record { service = m.service; used = nat_abs (sum_after m k) }
 unfolding keyed
 went_to m k e = ap (λ (x : Keyed). x.meter) (settle-given (verdict (key_rules m k)) (refused_key m) (gone_to m k) (by-verdict m k ∙ ap told e))
 
@@ -109,7 +108,7 @@ unfolding septets_in first_place
 empty-counts s q e = record { service = e; counted = refl; codable = refl; most = omega arith }
 
 -- a key that goes
-went-counts : (s : Service) (m : Meter) (t u : List ℕ) (k : Key) → Counts s m t → of_unlisted k ≡ false → no_sum (sum_after m k) ≡ false → Follows t k Went u
+went-counts : (s : Service) (m : Meter) (t u : List ℕ) (k : Key) → Counts s m t → of_unlisted k ≡ false → no_sum (sum_after m k) ≡ false → Follows t k (Ok tt) u
     → Counts s (record { service = m.service; used = nat_abs (sum_after m k) }) u
 went-counts s m t u (add unit) c l z e =
     record {
@@ -131,10 +130,10 @@ went-counts s m t u (back unit) c l z e =
 went-counts s m t u clear c l z e = subst (λ (v : List ℕ). Counts s (new_meter m.service) v) (sym e) (empty-counts s m.service c.service)
 
 -- one call
-step_counts : (s : Service) (m n : Meter) (t u : List ℕ) (k : Key) (a : Pressed) → Counts s m t → Called m k a n → Follows t k a u → Counts s n u
-step_counts s m n t u k (Refused r) c e f =
+step_counts : (s : Service) (m n : Meter) (t u : List ℕ) (k : Key) (a : Result (Unit {0}) Refusal) → Counts s m t → Called m k a n → Follows t k a u → Counts s n u
+step_counts s m n t u k (Err r) c e f =
     subst (λ (v : List ℕ). Counts s n v) (sym f) (subst (λ (x : Meter). Counts s x t) (sym (e.1 ∙ refused-kept m k r (sym e.0))) c)
-step_counts s m n t u k Went c e f =
+step_counts s m n t u k (Ok tt) c e f =
     let goes = (goes-iff m k).0 (sym e.0) in
     subst (λ (x : Meter). Counts s x u) (sym (e.1 ∙ went_to m k (sym e.0))) (went-counts s m t u k c goes.0 goes.1 f)
 

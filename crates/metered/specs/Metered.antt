@@ -13,7 +13,7 @@
 --   refused_key m                    == what a refused key gives: the record as it was
 --   keyed m k                        == what a key gives: the record after it, and its answer
 --   pressed_number, pressed_position == what an answer reports: the refusal's number and position, and 0 of a key that goes
-use Rattle.std.specs.Prelude.{ℕ, Bool, false, ◌||◌, List, [], ◌∷◌, ◌++◌, ℤ, pos, ◌+ℤ◌, ◌-ℤ◌, nat_abs, length}
+use Rattle.std.specs.Prelude.{ℕ, Bool, false, ◌||◌, List, [], ◌∷◌, ◌++◌, ℤ, pos, ◌+ℤ◌, ◌-ℤ◌, nat_abs, length, Result, Ok, Err}
 use Rattle.std.specs.Int.Signed.{lt_z}
 use Rattle.words.specs.declared.Service.{Service}
 use Rattle.words.specs.declared.Refusal.{Refusal}
@@ -24,8 +24,6 @@ use Rattle.words.specs.Sizes.{most_septets}
 use Rattle.letters.specs.Writing.{listed_as, is_unlisted, septets_for}
 use Rattle.metered.specs.declared.Meter.{Meter}
 use Rattle.metered.specs.declared.Keyed.{Keyed}
-use Rattle.metered.specs.declared.Pressed.{Pressed}
-use Rattle.metered.specs.declared.Pressed.TheVariants.{Went, Refused}
 
 pub data Key : Type 0 where
   add : ℕ → Key
@@ -62,17 +60,17 @@ key_rules m k =
     ∷ [])
 
 abbrev pub refused_key : Meter → Refusal → Keyed
-refused_key m r = record { meter = m; answer = Refused r }
+refused_key m r = record { meter = m; answer = Err r }
 
 unfoldable pub keyed : Meter → Key → Keyed
 keyed m k =
     settle (verdict (key_rules m k)) (refused_key m)
-    (record { meter = record { service = m.service; used = nat_abs (sum_after m k) }; answer = Went })
+    (record { meter = record { service = m.service; used = nat_abs (sum_after m k) }; answer = (Ok tt) })
 
-abbrev pub pressed_number : Pressed → ℕ
-pressed_number Went = 0
-pressed_number (Refused r) = number_of r
+abbrev pub pressed_number : Result (Unit {0}) Refusal → ℕ
+pressed_number (Ok tt) = 0
+pressed_number (Err r) = number_of r
 
-abbrev pub pressed_position : Pressed → ℕ
-pressed_position Went = 0
-pressed_position (Refused r) = position_of r
+abbrev pub pressed_position : Result (Unit {0}) Refusal → ℕ
+pressed_position (Ok tt) = 0
+pressed_position (Err r) = position_of r

@@ -6,24 +6,23 @@
 --   Step                  == a key, what it was answered, and the record and the text after it
 --   Types m t steps       == from the record m and the text t on, a call for each key, one after the other
 --   last_meter, last_text == the record and the text at the end
-use Rattle.std.specs.Prelude.{◌≡◌, List, [], ◌∷◌, ◌++◌, ℕ}
+use Rattle.std.specs.Prelude.{◌≡◌, List, [], ◌∷◌, ◌++◌, ℕ, Result, Ok, Err}
 use Rattle.metered.specs.declared.Meter.{Meter}
-use Rattle.metered.specs.declared.Pressed.{Pressed}
-use Rattle.metered.specs.declared.Pressed.TheVariants.{Went, Refused}
 use Rattle.metered.specs.Metered.{Key, add, back, clear, keyed}
+use Rattle.words.specs.declared.Refusal.{Refusal}
 
-abbrev pub Called : Meter → Key → Pressed → Meter → Type 0
+abbrev pub Called : Meter → Key → Result (Unit {0}) Refusal → Meter → Type 0
 Called m k a n = (a ≡ (keyed m k).answer) × (n ≡ (keyed m k).meter)
 
-abbrev pub Follows : List ℕ → Key → Pressed → List ℕ → Type 0
-Follows t k (Refused r) u = u ≡ t
-Follows t (add unit) Went u = u ≡ t ++ (unit ∷ [])
-Follows t (back unit) Went u = t ≡ u ++ (unit ∷ [])
-Follows t clear Went u = u ≡ []
+abbrev pub Follows : List ℕ → Key → Result (Unit {0}) Refusal → List ℕ → Type 0
+Follows t k (Err r) u = u ≡ t
+Follows t (add unit) (Ok tt) u = u ≡ t ++ (unit ∷ [])
+Follows t (back unit) (Ok tt) u = t ≡ u ++ (unit ∷ [])
+Follows t clear (Ok tt) u = u ≡ []
 
 pub record Step : Type 0 where
   pub key : Key
-  pub answer : Pressed
+  pub answer : Result (Unit {0}) Refusal
   pub meter : Meter
   pub text : List ℕ
 

@@ -11,19 +11,10 @@ pub struct Meter {
     pub used: u32,
 }
 
-// What a key answers.
-#[derive(Clone, Copy)]
-pub enum Pressed {
-    // It went.
-    Went,
-    // Why it did not: the record is as it was.
-    Refused(Refusal),
-}
-
 // A key by value.
 #[derive(Clone, Copy)]
 pub struct Keyed {
     // The record after it.
     pub meter: Meter,
-    pub answer: Pressed,
+    pub answer: Result<(), Refusal>,
 }

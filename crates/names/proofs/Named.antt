@@ -26,16 +26,11 @@ use Rattle.fields.specs.declared.Letters.{Letters}
 use Rattle.fields.specs.Numbers.{alphabet_no, class_no, language_no, kind_no, notice_no, flag_no, alphabets, classes, languages, kinds}
 use Rattle.fields.proofs.Numbered.{alphabet-named, class-named, language-named, flag-named}
 use Rattle.names.specs.declared.ReadingNumbers.{ReadingNumbers}
-use Rattle.words.specs.declared.NamedService.{NamedService}
-use Rattle.words.specs.declared.NamedService.TheVariants as service
-use Rattle.names.specs.declared.NamedNotice.{NamedNotice}
-use Rattle.names.specs.declared.NamedNotice.TheVariants as notice
-use Rattle.names.specs.declared.NamedReading.{NamedReading}
-use Rattle.names.specs.declared.NamedReading.TheVariants as reading
 use Rattle.names.specs.Joined.{joined_fields, joined_rest}
 use Rattle.names.specs.Inner.{InOctets}
 use Rattle.words.specs.Services.{service_no, named_service}
 use Rattle.names.specs.Names.{named_notice, numbers_of, names_flags, names_fields, reading_with, with_named, named_reading}
+use Rattle.std.specs.Prelude.{Option, Some, None}
 
 -- a choice reads as n where both of its sides do
 cond-reads : {A : Type 0} (reads : A → ℕ) (n : ℕ) (b : Bool) (x y : A) → (b ≡ true → reads x ≡ n) → reads y ≡ n → reads (cond b x y) ≡ n
@@ -48,7 +43,7 @@ never e = absurd (subst T (sym e) tt)
 
 -- ---- services
 
-pub service-named : (s : Service) → named_service (service_no s) ≡ service.Named s
+pub service-named : (s : Service) → named_service (service_no s) ≡ Some s
 unfolding named_service
 service-named ShortMessage = refl
 service-named Broadcast = refl
@@ -56,11 +51,11 @@ service-named Ussd = refl
 service-named OldPage = refl
 
 -- the number of what is named, and n where nothing is
-abbrev service_reads : ℕ → NamedService → ℕ
-service_reads n (service.Named s) = service_no s
-service_reads n service.Unnamed = n
+abbrev service_reads : ℕ → Option Service → ℕ
+service_reads n (Some s) = service_no s
+service_reads n None = n
 
-pub service-number : (n : ℕ) (s : Service) → named_service n ≡ service.Named s → service_no s ≡ n
+pub service-number : (n : ℕ) (s : Service) → named_service n ≡ Some s → service_no s ≡ n
 unfolding named_service
 service-number n s e =
     sym (ap (service_reads n) e)
@@ -97,7 +92,7 @@ flag-back true = refl
 
 -- ---- notices
 
-pub notice-named : (v : Notice) → named_notice (notice_no v) ≡ notice.Named v
+pub notice-named : (v : Notice) → named_notice (notice_no v) ≡ Some v
 unfolding named_notice
 notice-named Nothing = refl
 notice-named (Discard false Voicemail) = refl
@@ -117,9 +112,9 @@ notice-named (Store true Fax) = refl
 notice-named (Store true Mail) = refl
 notice-named (Store true Other) = refl
 
-abbrev notice_reads : ℕ → NamedNotice → ℕ
-notice_reads n (notice.Named v) = notice_no v
-notice_reads n notice.Unnamed = n
+abbrev notice_reads : ℕ → Option Notice → ℕ
+notice_reads n (Some v) = notice_no v
+notice_reads n None = n
 
 notice-reads : (n : ℕ) → notice_reads n (named_notice n) ≡ n
 unfolding named_notice
@@ -194,16 +189,16 @@ with-own r =
       flag-back r.header,
     )
 
-pub reading-named : (r : Reading) → named_reading (numbers_of r) ≡ reading.Named r
+pub reading-named : (r : Reading) → named_reading (numbers_of r) ≡ Some r
 unfolding named_reading
 reading-named r =
-    ap (λ (b : Bool). cond b (with_named (numbers_of r) (named_notice (notice_no r.notice))) reading.Unnamed) (fields-own r)
+    ap (λ (b : Bool). cond b (with_named (numbers_of r) (named_notice (notice_no r.notice))) None) (fields-own r)
     ∙ ap (with_named (numbers_of r)) (notice-named r.notice)
-    ∙ ap reading.Named (with-own r)
+    ∙ ap Some (with-own r)
 
-abbrev reading_reads : ReadingNumbers → NamedReading → ReadingNumbers
-reading_reads x (reading.Named r) = numbers_of r
-reading_reads x reading.Unnamed = x
+abbrev reading_reads : ReadingNumbers → Option Reading → ReadingNumbers
+reading_reads x (Some r) = numbers_of r
+reading_reads x None = x
 
 with-numbers : (x : ReadingNumbers) (v : Notice) → Within x → notice_no v ≡ x.notice → numbers_of (reading_with x v) ≡ x
 with-numbers x v w e =
@@ -219,15 +214,15 @@ with-numbers x v w e =
       e,
     )
 
-named-numbers : (x : ReadingNumbers) → Within x → (v : NamedNotice) → notice_reads x.notice v ≡ x.notice → reading_reads x (with_named x v) ≡ x
-named-numbers x w (notice.Named v) e = with-numbers x v w e
-named-numbers x w notice.Unnamed e = refl
+named-numbers : (x : ReadingNumbers) → Within x → (v : Option Notice) → notice_reads x.notice v ≡ x.notice → reading_reads x (with_named x v) ≡ x
+named-numbers x w (Some v) e = with-numbers x v w e
+named-numbers x w None e = refl
 
-chosen-numbers : (x : ReadingNumbers) (b : Bool) → (b ≡ true → Within x) → reading_reads x (cond b (with_named x (named_notice x.notice)) reading.Unnamed) ≡ x
+chosen-numbers : (x : ReadingNumbers) (b : Bool) → (b ≡ true → Within x) → reading_reads x (cond b (with_named x (named_notice x.notice)) None) ≡ x
 chosen-numbers x true h = named-numbers x (h refl) (named_notice x.notice) (notice-reads x.notice)
 chosen-numbers x false h = refl
 
-pub reading-number : (x : ReadingNumbers) (r : Reading) → named_reading x ≡ reading.Named r → numbers_of r ≡ x
+pub reading-number : (x : ReadingNumbers) (r : Reading) → named_reading x ≡ Some r → numbers_of r ≡ x
 unfolding named_reading
 reading-number x r e = sym (ap (reading_reads x) e) ∙ chosen-numbers x (names_fields x) (within x)
 
@@ -257,7 +252,7 @@ alphabet-below true = omega arith
 alphabet-below false = omega arith
 
 pub plain-named : (x : ReadingNumbers) (ucs2 : Bool) → InOctets x → joined_rest x ≡ 0 → joined_fields x ≡ 0x1000000 * 15 + cond ucs2 2 0
-    → named_reading x ≡ reading.Named (plain_in ucs2)
+    → named_reading x ≡ Some (plain_in ucs2)
 unfolding named_reading names_fields names_flags named_notice
 plain-named x ucs2 w z e = by-fields ucs2 (plain-fields x (cond ucs2 2 0) w (alphabet-below ucs2) e)
   where
@@ -271,7 +266,7 @@ plain-named x ucs2 w z e = by-fields ucs2 (plain-fields x (cond ucs2 2 0) w (alp
     q = omega (arith, z)
 
     by-fields : (ucs2 : Bool) → (x.alphabet ≡ cond ucs2 2 0) × (x.compressed ≡ 0) × (x.class ≡ 0) × (x.language ≡ 15) × (x.deletion ≡ 0) × (x.prefix ≡ 0) × (x.reserved ≡ 0) × (x.header ≡ 0)
-        → named_reading x ≡ reading.Named (plain_in ucs2)
+        → named_reading x ≡ Some (plain_in ucs2)
     by-fields true b = simp (b.0, b.1, b.2, b.3, b.4, b.5, b.6, b.7, n, p, q)
     by-fields false b = simp (b.0, b.1, b.2, b.3, b.4, b.5, b.6, b.7, n, p, q)
 

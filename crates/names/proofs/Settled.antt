@@ -13,24 +13,21 @@ use Rattle.words.specs.declared.Service.TheVariants.{ShortMessage, Broadcast, Us
 use Rattle.words.specs.declared.Refusal.TheVariants.{Unwritable}
 use Rattle.words.specs.Judging.{verdict}
 use Rattle.coding.specs.declared.Reading.{Reading}
-use Rattle.coding.specs.declared.OctetRead.TheVariants as octet-read
 use Rattle.coding.specs.OctetRead.{read_under, octet_reads}
 use Rattle.coding.specs.LanguageLetters.{is_lettered, lettered_in}
 use Rattle.coding.proofs.Prefixed.{lettered-read, read-given, read-clear}
 use Rattle.coding.specs.Holding.{is_ucs2, text_rules, holds_text}
 use Rattle.coding.specs.Readings.{plain_in}
-use Rattle.writer.specs.declared.Settled.TheVariants.{Refused}
 use Rattle.writer.specs.declared.MessageCoding.TheVariants as coding
 use Rattle.writer.specs.Settled.{settled_as}
 use Rattle.writer.specs.Coded.{coded_as}
 use Rattle.names.specs.declared.ReadingNumbers.{ReadingNumbers}
-use Rattle.names.specs.declared.NamedReading.{NamedReading}
-use Rattle.names.specs.declared.NamedReading.TheVariants as reading
 use Rattle.names.specs.declared.said.Heard.TheVariants as heard
 use Rattle.names.specs.Names.{numbers_of, named_reading, under_reading}
 use Rattle.names.specs.Joined.{joined_numbers}
 use Rattle.names.specs.Said.{coded_in, held_by, reading_heard, heard_by}
 use Rattle.names.proofs.Named.{never}
+use Rattle.std.specs.Prelude.{Option, Ok, Err, Some, None}
 
 -- ---- plain text
 
@@ -40,19 +37,19 @@ plain-heard s true = refl
 plain-heard s false = refl
 
 -- an old page that is read is plain 7-bit text
-pub old-plain : (o : ℕ) (r : Reading) (ucs2 : Bool) → octet_reads OldPage o ≡ octet-read.Done r → not ucs2 ≡ true → octet_reads OldPage o ≡ octet-read.Done (plain_in ucs2)
+pub old-plain : (o : ℕ) (r : Reading) (ucs2 : Bool) → octet_reads OldPage o ≡ Ok r → not ucs2 ≡ true → octet_reads OldPage o ≡ Ok (plain_in ucs2)
 old-plain o r true e f = never f
-old-plain o r false e f = e ∙ ap octet-read.Done (sym (read-given OldPage o r (sym e)))
+old-plain o r false e f = e ∙ ap Ok (sym (read-given OldPage o r (sym e)))
 
 -- ---- a reading in numbers
 
-pub named-coded : (s : Service) (x : ReadingNumbers) {r : Reading} → named_reading x ≡ reading.Named r → coded_in s x ≡ coded_as s r
+pub named-coded : (s : Service) (x : ReadingNumbers) {r : Reading} → named_reading x ≡ Some r → coded_in s x ≡ coded_as s r
 unfolding coded_in
-named-coded s x e = ap (λ (v : NamedReading). under_reading v (coding.Text (Refused Unwritable)) (λ r. coded_as s r)) e
+named-coded s x e = ap (λ (v : Option Reading). under_reading v (coding.Text (Err Unwritable)) (λ r. coded_as s r)) e
 
-pub unnamed-coded : (s : Service) (x : ReadingNumbers) → named_reading x ≡ reading.Unnamed → coded_in s x ≡ coding.Text (Refused Unwritable)
+pub unnamed-coded : (s : Service) (x : ReadingNumbers) → named_reading x ≡ None → coded_in s x ≡ coding.Text (Err Unwritable)
 unfolding coded_in
-unnamed-coded s x e = ap (λ (v : NamedReading). under_reading v (coding.Text (Refused Unwritable)) (λ r. coded_as s r)) e
+unnamed-coded s x e = ap (λ (v : Option Reading). under_reading v (coding.Text (Err Unwritable)) (λ r. coded_as s r)) e
 
 -- plain text has no letters in front of it, under any service
 pub plain-coded : (s : Service) (ucs2 : Bool) → coded_as s (plain_in ucs2) ≡ coding.Text (settled_as s (plain_in ucs2))
@@ -80,6 +77,6 @@ lettered-heard Ussd o h l = never l
 lettered-heard OldPage o h l = never l
 
 -- and every other message by what its reading holds
-pub clear-heard : (s : Service) (o : ℕ) (r : Reading) → is_lettered s (read_under s o) ≡ false → octet_reads s o ≡ octet-read.Done r → held_by (holds_text s r) r ≡ heard_by s (octet_reads s o)
+pub clear-heard : (s : Service) (o : ℕ) (r : Reading) → is_lettered s (read_under s o) ≡ false → octet_reads s o ≡ Ok r → held_by (holds_text s r) r ≡ heard_by s (octet_reads s o)
 clear-heard s o r l e =
     ap (λ (b : Bool). cond b (heard.Lettered (is_ucs2 r.alphabet)) (held_by (holds_text s r) r)) (sym (read-clear s o r l (sym e))) ∙ ap (heard_by s) (sym e)

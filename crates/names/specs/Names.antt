@@ -5,7 +5,7 @@
 --   numbers_of r            == the numbers of the fields of the reading r
 --   named_reading x         == the reading whose fields have the numbers x, if there is one
 --   under_reading           == what a call gives for a reading, or for none
-use Rattle.std.specs.Prelude.{ℕ, ◌/◌, ◌%◌, Bool, true, false, cond, ◌&&◌, eqb, ltb, get_or}
+use Rattle.std.specs.Prelude.{ℕ, ◌/◌, ◌%◌, Bool, true, false, cond, ◌&&◌, eqb, ltb, get_or, Option, Some, None}
 use Rattle.fields.specs.declared.Alphabet.TheVariants.{SevenBit}
 use Rattle.fields.specs.declared.Class.TheVariants.{Unset}
 use Rattle.fields.specs.declared.Language.TheVariants.{German}
@@ -15,20 +15,16 @@ use Rattle.fields.specs.declared.Notice.TheVariants.{Nothing, Discard, Store}
 use Rattle.coding.specs.declared.Reading.{Reading}
 use Rattle.fields.specs.Numbers.{alphabet_no, class_no, language_no, notice_no, flag_no, alphabets, classes, languages, kinds}
 use Rattle.names.specs.declared.ReadingNumbers.{ReadingNumbers}
-use Rattle.names.specs.declared.NamedNotice.{NamedNotice}
-use Rattle.names.specs.declared.NamedNotice.TheVariants as notice
-use Rattle.names.specs.declared.NamedReading.{NamedReading}
-use Rattle.names.specs.declared.NamedReading.TheVariants as reading
 
 -- a notice's number is 4 times how it is kept and whether it is active, and its kind
-unfoldable pub named_notice : ℕ → NamedNotice
+unfoldable pub named_notice : ℕ → Option Notice
 named_notice n =
-    cond (eqb n 0) (notice.Named Nothing)
-    (cond (eqb (n / 4) 4) (notice.Named (Discard false (get_or kinds (n % 4) Voicemail)))
-    (cond (eqb (n / 4) 6) (notice.Named (Discard true (get_or kinds (n % 4) Voicemail)))
-    (cond (eqb (n / 4) 8) (notice.Named (Store false (get_or kinds (n % 4) Voicemail)))
-    (cond (eqb (n / 4) 10) (notice.Named (Store true (get_or kinds (n % 4) Voicemail)))
-    notice.Unnamed))))
+    cond (eqb n 0) (Some Nothing)
+    (cond (eqb (n / 4) 4) (Some (Discard false (get_or kinds (n % 4) Voicemail)))
+    (cond (eqb (n / 4) 6) (Some (Discard true (get_or kinds (n % 4) Voicemail)))
+    (cond (eqb (n / 4) 8) (Some (Store false (get_or kinds (n % 4) Voicemail)))
+    (cond (eqb (n / 4) 10) (Some (Store true (get_or kinds (n % 4) Voicemail)))
+    None))))
 
 abbrev pub numbers_of : Reading → ReadingNumbers
 numbers_of r =
@@ -68,13 +64,13 @@ reading_with x v =
       letters = record { first = x.first; second = x.second };
     }
 
-abbrev pub with_named : ReadingNumbers → NamedNotice → NamedReading
-with_named x (notice.Named v) = reading.Named (reading_with x v)
-with_named x notice.Unnamed = reading.Unnamed
+abbrev pub with_named : ReadingNumbers → Option Notice → Option Reading
+with_named x (Some v) = Some (reading_with x v)
+with_named x None = None
 
-unfoldable pub named_reading : ReadingNumbers → NamedReading
-named_reading x = cond (names_fields x) (with_named x (named_notice x.notice)) reading.Unnamed
+unfoldable pub named_reading : ReadingNumbers → Option Reading
+named_reading x = cond (names_fields x) (with_named x (named_notice x.notice)) None
 
-abbrev pub under_reading : {A : Type 0} → NamedReading → A → (Reading → A) → A
-under_reading (reading.Named r) none given = given r
-under_reading reading.Unnamed none given = none
+abbrev pub under_reading : {A : Type 0} → Option Reading → A → (Reading → A) → A
+under_reading (Some r) none given = given r
+under_reading None none given = none

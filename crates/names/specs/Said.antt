@@ -4,37 +4,35 @@
 --   held_by held r      == what a text by itself is read with, where its reading r holds that text
 --   reading_heard s r   == what a message is read with, where its reading is r
 --   heard_by s octet    == the same, where its coding octet says so
-use Rattle.std.specs.Prelude.{true, false, cond}
+use Rattle.std.specs.Prelude.{true, false, cond, Result, Ok, Err}
 use Rattle.words.specs.declared.Service.{Service}
 use Rattle.words.specs.declared.Refusal.TheVariants.{Unwritable}
 use Rattle.coding.specs.declared.Reading.{Reading}
 use Rattle.coding.specs.declared.Held.{Held}
-use Rattle.coding.specs.declared.Held.TheVariants as held
-use Rattle.coding.specs.declared.OctetRead.{OctetRead}
-use Rattle.coding.specs.declared.OctetRead.TheVariants as octet-read
 use Rattle.coding.specs.LanguageLetters.{is_lettered}
 use Rattle.coding.specs.Holding.{is_ucs2, holds_text}
 use Rattle.writer.specs.declared.MessageCoding.{MessageCoding}
 use Rattle.writer.specs.declared.MessageCoding.TheVariants as coding
-use Rattle.writer.specs.declared.Settled.TheVariants.{Refused}
 use Rattle.writer.specs.Coded.{coded_as}
 use Rattle.names.specs.declared.ReadingNumbers.{ReadingNumbers}
 use Rattle.names.specs.declared.said.Heard.{Heard}
 use Rattle.names.specs.declared.said.Heard.TheVariants as heard
 use Rattle.names.specs.Names.{numbers_of, named_reading, under_reading}
 use Rattle.names.specs.Joined.{joined_numbers}
+use Rattle.words.specs.declared.Refusal.{Refusal}
+use Rattle.coding.specs.declared.Held.TheVariants as held
 
 unfoldable pub coded_in : Service → ReadingNumbers → MessageCoding
-coded_in s x = under_reading (named_reading x) (coding.Text (Refused Unwritable)) (λ r. coded_as s r)
+coded_in s x = under_reading (named_reading x) (coding.Text (Err Unwritable)) (λ r. coded_as s r)
 
-abbrev pub held_by : Held → Reading → Heard
-held_by held.Septets r = heard.Text false (joined_numbers (numbers_of r))
-held_by held.Units r = heard.Text true (joined_numbers (numbers_of r))
-held_by (held.Refused q) r = heard.Refused q
+abbrev pub held_by : Result Held Refusal → Reading → Heard
+held_by (Ok held.Septets) r = heard.Text false (joined_numbers (numbers_of r))
+held_by (Ok held.Units) r = heard.Text true (joined_numbers (numbers_of r))
+held_by (Err q) r = heard.Refused q
 
 abbrev pub reading_heard : Service → Reading → Heard
 reading_heard s r = cond (is_lettered s r) (heard.Lettered (is_ucs2 r.alphabet)) (held_by (holds_text s r) r)
 
-abbrev pub heard_by : Service → OctetRead → Heard
-heard_by s (octet-read.Done r) = reading_heard s r
-heard_by s (octet-read.Refused q) = heard.Refused q
+abbrev pub heard_by : Service → Result Reading Refusal → Heard
+heard_by s (Ok r) = reading_heard s r
+heard_by s (Err q) = heard.Refused q

@@ -7,7 +7,6 @@ ghost use Rattle.names.specs.Joined.{joined_fields, joined_rest, joined_numbers,
 ghost use Rattle.names.specs.Inner.{InOctets};
 ghost use Rattle.coding.specs.Readings.{plain_in, with_letters};
 ghost use Rattle.coding.specs.LanguageLetters.{lettered_in};
-ghost use Rattle.names.specs.declared.NamedReading.TheVariants.{Named};
 
 use coding::Reading;
 use fields::{Alphabet, Letters, Notice, flag};
@@ -39,56 +38,42 @@ pub struct JoinedNumbers {
     pub back: u64,
 }
 
-// What a number says of a waiting notice.
-#[derive(Clone, Copy)]
-pub enum NamedNotice {
-    Named(Notice),
-    Unnamed,
-}
-
-// What the numbers of its fields say of a reading.
-#[derive(Clone, Copy)]
-pub enum NamedReading {
-    Named(Reading),
-    Unnamed,
-}
-
 // The notice with that number.
-fn notice(number: u16) -> NamedNotice
+fn notice(number: u16) -> Option<Notice>
     ensures { result ≡ named_notice number }
 {
     if number == 0 {
-        return NamedNotice::Named(Notice::Nothing);
+        return Some(Notice::Nothing);
     }
     let i = (number % 4) as usize;
     let kinds = fields::KINDS;
     let kind = kinds[i];
     let group = number / 4;
     if group == 4 {
-        return NamedNotice::Named(Notice::Discard {
+        return Some(Notice::Discard {
             active: false,
             kind: kind,
         });
     }
     if group == 6 {
-        return NamedNotice::Named(Notice::Discard {
+        return Some(Notice::Discard {
             active: true,
             kind: kind,
         });
     }
     if group == 8 {
-        return NamedNotice::Named(Notice::Store {
+        return Some(Notice::Store {
             active: false,
             kind: kind,
         });
     }
     if group == 10 {
-        return NamedNotice::Named(Notice::Store {
+        return Some(Notice::Store {
             active: true,
             kind: kind,
         });
     }
-    NamedNotice::Unnamed
+    None
 }
 
 // Whether each flag has a number that names one.
@@ -238,7 +223,7 @@ pub(crate) fn plain_alphabet(ucs2: bool) -> u8
 
 // True only for the numbers of plain text, 7-bit or UCS2 with nothing special: its language is 15, unspecified.
 pub(crate) fn plain(numbers: ReadingNumbers, ucs2: bool) -> bool
-    ensures { result ≡ true → named_reading numbers ≡ Named (plain_in ucs2) }
+    ensures { result ≡ true → named_reading numbers ≡ Some (plain_in ucs2) }
 {
     if rest(numbers) != 0 {
         return false;
@@ -287,29 +272,29 @@ pub fn lettered_numbers(ucs2: bool, letters: Letters) -> ReadingNumbers
 }
 
 // The reading whose fields have these numbers. Plain text, 7-bit or UCS2, is by far the most, and needs no table.
-pub fn reading(numbers: ReadingNumbers) -> NamedReading
+pub fn reading(numbers: ReadingNumbers) -> Option<Reading>
     ensures answer { result ≡ named_reading numbers }
 {
     if plain(numbers, false) {
-        return NamedReading::Named(Reading::plain());
+        return Some(Reading::plain());
     }
     if plain(numbers, true) {
-        return NamedReading::Named(Reading::plain().with_alphabet(Alphabet::Ucs2));
+        return Some(Reading::plain().with_alphabet(Alphabet::Ucs2));
     }
     any_reading(numbers)
 }
 
 // The reading whose fields have these numbers, each looked up.
-pub(crate) fn any_reading(numbers: ReadingNumbers) -> NamedReading
+pub(crate) fn any_reading(numbers: ReadingNumbers) -> Option<Reading>
     ensures { result ≡ named_reading numbers }
 {
     if fields(numbers) {
         match notice(numbers.notice) {
-            NamedNotice::Named(notice) => NamedReading::Named(with(numbers, notice)),
-            NamedNotice::Unnamed => NamedReading::Unnamed,
+            Some(notice) => Some(with(numbers, notice)),
+            None => None,
         }
     } else {
-        NamedReading::Unnamed
+        None
     }
 }
 

@@ -4,14 +4,13 @@ ghost use Rattle.std.specs.Prelude.{◌≡◌, true};
 ghost use Rattle.coding.specs.OctetRead.{octet_reads};
 ghost use Rattle.coding.specs.Holding.{holds_text};
 ghost use Rattle.coding.specs.Readings.{plain_in};
-ghost use Rattle.coding.specs.declared.OctetRead.TheVariants.{Done};
 ghost use Rattle.words.specs.declared.Service.TheVariants.{OldPage};
 ghost use Rattle.names.specs.Said.{coded_in, held_by, heard_by};
 
-use crate::{JoinedNumbers, NamedReading, ReadingNumbers};
-use coding::{Held, OctetRead, OctetWritten, Reading};
+use crate::{JoinedNumbers, ReadingNumbers};
+use coding::{Held, OctetRead, Reading};
 use words::{Refusal, Service};
-use writer::{MessageCoding, Settled};
+use writer::MessageCoding;
 
 // What one message is read with.
 #[derive(Clone, Copy)]
@@ -33,8 +32,8 @@ pub fn coded(service: Service, numbers: ReadingNumbers) -> MessageCoding
         return MessageCoding::Text(writer::settle_plain(service, true));
     }
     match crate::any_reading(numbers) {
-        NamedReading::Named(reading) => writer::code_message(service, reading),
-        NamedReading::Unnamed => MessageCoding::Text(Settled::Refused(Refusal::Unwritable)),
+        Some(reading) => writer::code_message(service, reading),
+        None => MessageCoding::Text(Err(Refusal::Unwritable)),
     }
 }
 
@@ -55,14 +54,14 @@ pub fn hears(service: Service, coding: u8) -> Heard
         };
     }
     match coding::read_octet(service, coding) {
-        OctetRead::Done(reading) => reading_heard(service, reading),
-        OctetRead::Refused(refusal) => Heard::Refused(refusal),
+        Ok(reading) => reading_heard(service, reading),
+        Err(refusal) => Heard::Refused(refusal),
     }
 }
 
 // True only for an octet of plain text: the one that it is written with, and all that an old page may have.
 fn is_plain(service: Service, ucs2: bool, coding: u8) -> bool
-    ensures { result ≡ true → octet_reads service coding ≡ Done (plain_in ucs2) }
+    ensures { result ≡ true → octet_reads service coding ≡ Ok (plain_in ucs2) }
 {
     match service {
         Service::ShortMessage => is_written(service, ucs2, coding),
@@ -74,21 +73,21 @@ fn is_plain(service: Service, ucs2: bool, coding: u8) -> bool
 
 // True only for the octet that plain text is written with.
 fn is_written(service: Service, ucs2: bool, coding: u8) -> bool
-    ensures { result ≡ true → octet_reads service coding ≡ Done (plain_in ucs2) }
+    ensures { result ≡ true → octet_reads service coding ≡ Ok (plain_in ucs2) }
 {
     match coding::plain_octet(service, ucs2) {
-        OctetWritten::Done(octet) => octet == coding,
-        OctetWritten::Refused(_) => false,
+        Ok(octet) => octet == coding,
+        Err(_) => false,
     }
 }
 
 // True only for an octet of an old page, which is 7-bit text.
 fn is_old(ucs2: bool, coding: u8) -> bool
-    ensures { result ≡ true → octet_reads OldPage coding ≡ Done (plain_in ucs2) }
+    ensures { result ≡ true → octet_reads OldPage coding ≡ Ok (plain_in ucs2) }
 {
     match coding::read_octet(Service::OldPage, coding) {
-        OctetRead::Done(_) => !ucs2,
-        OctetRead::Refused(_) => false,
+        Ok(_) => !ucs2,
+        Err(_) => false,
     }
 }
 
@@ -107,14 +106,14 @@ fn reading_heard(service: Service, reading: Reading) -> Heard
     ensures { result ≡ held_by (holds_text service reading) reading }
 {
     match reading.holds(service) {
-        Held::Septets => Heard::Text {
+        Ok(Held::Septets) => Heard::Text {
             ucs2: false,
             reading: crate::join(crate::numbers(reading)),
         },
-        Held::Units => Heard::Text {
+        Ok(Held::Units) => Heard::Text {
             ucs2: true,
             reading: crate::join(crate::numbers(reading)),
         },
-        Held::Refused(refusal) => Heard::Refused(refusal),
+        Err(refusal) => Heard::Refused(refusal),
     }
 }

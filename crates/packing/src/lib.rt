@@ -8,7 +8,7 @@ ghost use Rattle.stream.specs.ArrayCalls.{array_answers, array_leaves, page_answ
 ghost use Rattle.stream.specs.Inner.{counted_as};
 
 use stream::Packed;
-use words::{Filled, Refusal, Service};
+use words::{Refusal, Service};
 
 mod pieces;
 mod septets;
@@ -16,20 +16,20 @@ mod septets;
 // Packs septets for a service: how many octets that takes, and the length count.
 // Refuses an old page (8), a septet of 128 or more (9, the first), a text over the service's size (5), a short buffer (7).
 // Stores the octets at the front of out; a refusal stores nothing.
-pub fn pack(service: Service, septets: &[u8], out: &mut [u8]) -> Packed
+pub fn pack(service: Service, septets: &[u8], out: &mut [u8]) -> Result<Packed, Refusal>
     ensures answer { result ≡ pack_answers service septets.now (length out.old) }
     ensures buffer { out.new ≡ pack_leaves service septets.now out.old }
 {
     if service.is_old_page() {
-        return Packed::Refused(Refusal::Unwritable);
+        return Err(Refusal::Unwritable);
     }
     let n = septets.len();
     let high = wide::first_wide(septets);
     if high < n {
-        return Packed::Refused(Refusal::NoSeptet { septet: high });
+        return Err(Refusal::NoSeptet { septet: high });
     }
     if service.most_septets() < n {
-        return Packed::Refused(Refusal::TooLong);
+        return Err(Refusal::TooLong);
     }
     let count = closing::length_count(service, n);
     if septets::is_page(service) {
@@ -44,15 +44,20 @@ pub fn pack(service: Service, septets: &[u8], out: &mut [u8]) -> Packed
 // would cost 3 in 100.
 // Refuses an old page (8), n over the service's size (5), a short buffer (7).
 // Stores the octets at the front of out; a refusal stores nothing.
-pub fn pack_text(service: Service, septets: &[u8; 184], n: usize, out: &mut [u8]) -> Packed
+pub fn pack_text(
+    service: Service,
+    septets: &[u8; 184],
+    n: usize,
+    out: &mut [u8],
+) -> Result<Packed, Refusal>
     ensures answer { result ≡ array_answers service septets.now n (length out.old) }
     ensures buffer { out.new ≡ array_leaves service septets.now n out.old }
 {
     if service.is_old_page() {
-        return Packed::Refused(Refusal::Unwritable);
+        return Err(Refusal::Unwritable);
     }
     if service.most_septets() < n {
-        return Packed::Refused(Refusal::TooLong);
+        return Err(Refusal::TooLong);
     }
     let count = closing::length_count(service, n);
     let text = septets::front(septets, n);
@@ -67,13 +72,13 @@ pub fn pack_text(service: Service, septets: &[u8; 184], n: usize, out: &mut [u8]
 // Packs the low seven bits of septets for a short message, all of them, as pack_text does of the first of an array.
 // Refuses more than 160 septets (5), a short buffer (7).
 // Stores the octets at the front of out; a refusal stores nothing.
-pub fn pack_short(septets: &[u8], out: &mut [u8]) -> Packed
+pub fn pack_short(septets: &[u8], out: &mut [u8]) -> Result<Packed, Refusal>
     ensures answer { result ≡ array_answers ShortMessage septets.now (length septets.now) (length out.old) }
     ensures buffer { out.new ≡ array_leaves ShortMessage septets.now (length septets.now) out.old }
 {
     let n = septets.len();
     if 160 < n {
-        return Packed::Refused(Refusal::TooLong);
+        return Err(Refusal::TooLong);
     }
     counted(septets::send(septets, false, out), n)
 }
@@ -81,48 +86,58 @@ pub fn pack_short(septets: &[u8], out: &mut [u8]) -> Packed
 // Packs the 93 septets of a page: how many octets that takes.
 // Refuses a septet of 128 or more (9, the first), a short buffer (7).
 // Stores the octets at the front of out; a refusal stores nothing.
-pub fn pack_page(page: [u8; 93], out: &mut [u8]) -> Filled
+pub fn pack_page(page: [u8; 93], out: &mut [u8]) -> Result<usize, Refusal>
     ensures answer { result ≡ page_answers page (length out.old) }
     ensures buffer { out.new ≡ page_leaves page out.old }
 {
     let high = wide::first_wide(&page);
     if high < 93 {
-        return Filled::Refused(Refusal::NoSeptet { septet: high });
+        return Err(Refusal::NoSeptet { septet: high });
     }
     septets::send_page(page, out)
 }
 
 // The answer of a packing, with its length count.
-fn counted(stored: Filled, count: usize) -> Packed
+fn counted(stored: Result<usize, Refusal>, count: usize) -> Result<Packed, Refusal>
     ensures { result ≡ counted_as stored count }
 {
     match stored {
-        Filled::Done(octets) => Packed::Done { octets, count },
-        Filled::Refused(refusal) => Packed::Refused(refusal),
+        Ok(octets) => Ok(Packed { octets, count }),
+        Err(refusal) => Err(refusal),
     }
 }
 
 // Unpacks the septets that octets hold under a service, filling dropped: how many there are.
 // Refuses octets that do not fit the service or the count (4), then a short buffer (7). Spare bits are ignored.
 // Stores the septets at the front of out; a refusal stores nothing.
-pub fn unpack(service: Service, octets: &[u8], count: usize, out: &mut [u8]) -> Filled
+pub fn unpack(
+    service: Service,
+    octets: &[u8],
+    count: usize,
+    out: &mut [u8],
+) -> Result<usize, Refusal>
     ensures answer { result ≡ unpack_answers service octets.now count (length out.old) }
     ensures buffer { out.new ≡ unpack_leaves service octets.now count out.old }
 {
     let mut septets = [0u8; 184];
     match septets::unpack_whole(service, octets, count, &mut septets) {
-        Filled::Done(all) => {
+        Ok(all) => {
             let n = closing::text_length(service, &septets[..all]);
             septets::store(&septets, n, out)
         }
-        Filled::Refused(refusal) => Filled::Refused(refusal),
+        Err(refusal) => Err(refusal),
     }
 }
 
 // Unpacks all septets that octets hold under a service, the closing ones that unpack drops too: how many there are.
 // Refuses octets that do not fit the service or the count (4), then a short buffer (7). Spare bits are ignored.
 // Stores the septets at the front of out; a refusal stores nothing.
-pub fn unpack_all(service: Service, octets: &[u8], count: usize, out: &mut [u8]) -> Filled
+pub fn unpack_all(
+    service: Service,
+    octets: &[u8],
+    count: usize,
+    out: &mut [u8],
+) -> Result<usize, Refusal>
     ensures answer { result ≡ all_answers service octets.now count (length out.old) }
     ensures buffer { out.new ≡ all_leaves service octets.now count out.old }
 {

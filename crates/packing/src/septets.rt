@@ -12,7 +12,7 @@ ghost use Rattle.stream.specs.Storing.{given_answers, given_leaves};
 use crate::pieces::{low_eight, put_end, recut, take_end};
 use closing::fits;
 use groups::{left_over, octets_for, squeeze, stretch};
-use words::{Filled, Refusal, Service};
+use words::{Refusal, Service};
 
 // Whether a text is laid over a page.
 pub(crate) fn is_page(service: Service) -> bool
@@ -35,7 +35,7 @@ pub(crate) fn front(septets: &[u8], n: usize) -> &[u8]
 }
 
 // Packs a page.
-pub(crate) fn send_page(page: [u8; 93], out: &mut [u8]) -> Filled
+pub(crate) fn send_page(page: [u8; 93], out: &mut [u8]) -> Result<usize, Refusal>
     ensures answer { result ≡ given_answers (packed (low_of 7 page)) (length out.old) }
     ensures buffer { out.new ≡ given_leaves (packed (low_of 7 page)) out.old }
 {
@@ -51,7 +51,7 @@ fn with_cr(n: usize, cr: bool) -> usize
 }
 
 // Packs the low seven bits of septets, with a CR after them where cr says so.
-pub(crate) fn send(septets: &[u8], cr: bool, out: &mut [u8]) -> Filled
+pub(crate) fn send(septets: &[u8], cr: bool, out: &mut [u8]) -> Result<usize, Refusal>
     requires { length septets.now ≤ 183 }
     ensures answer { result ≡ given_answers (packed (with_cr cr (low_of 7 septets.now))) (length out.old) }
     ensures buffer { out.new ≡ given_leaves (packed (with_cr cr (low_of 7 septets.now))) out.old }
@@ -59,7 +59,7 @@ pub(crate) fn send(septets: &[u8], cr: bool, out: &mut [u8]) -> Filled
     let n = septets.len();
     let octets = octets_for(with_cr(n, cr));
     if out.len() < octets {
-        return Filled::Refused(Refusal::NoRoom);
+        return Err(Refusal::NoRoom);
     }
     let groups = n / 8;
     recut(septets, 7, groups, out, 8);
@@ -69,18 +69,23 @@ pub(crate) fn send(septets: &[u8], cr: bool, out: &mut [u8]) -> Filled
         let w = left_over(v, n, cr);
         put_end(w, out, done, octets - done);
     }
-    Filled::Done(octets)
+    Ok(octets)
 }
 
 // The same of the first n septets of an array. The last group is loaded whole, and what stands behind the text is masked off.
-pub(crate) fn send_front(septets: &[u8], n: usize, cr: bool, out: &mut [u8]) -> Filled
+pub(crate) fn send_front(
+    septets: &[u8],
+    n: usize,
+    cr: bool,
+    out: &mut [u8],
+) -> Result<usize, Refusal>
     requires { (n ≤ 182) × (length septets.now ≡ 184) }
     ensures answer { result ≡ given_answers (packed (with_cr cr (take n (low_of 7 septets.now)))) (length out.old) }
     ensures buffer { out.new ≡ given_leaves (packed (with_cr cr (take n (low_of 7 septets.now)))) out.old }
 {
     let octets = octets_for(with_cr(n, cr));
     if out.len() < octets {
-        return Filled::Refused(Refusal::NoRoom);
+        return Err(Refusal::NoRoom);
     }
     let groups = n / 8;
     recut(septets, 7, groups, out, 8);
@@ -90,7 +95,7 @@ pub(crate) fn send_front(septets: &[u8], n: usize, cr: bool, out: &mut [u8]) -> 
         let w = left_over(v, n, cr);
         put_end(w, out, done, octets - done);
     }
-    Filled::Done(octets)
+    Ok(octets)
 }
 
 // How many septets so many octets hold, the closing ones too.
@@ -121,34 +126,39 @@ fn unpack_into(octets: &[u8], n: usize, out: &mut [u8])
 }
 
 // Unpacks all septets that octets hold under a service: how many there are.
-pub(crate) fn unpack_whole(service: Service, octets: &[u8], count: usize, out: &mut [u8]) -> Filled
+pub(crate) fn unpack_whole(
+    service: Service,
+    octets: &[u8],
+    count: usize,
+    out: &mut [u8],
+) -> Result<usize, Refusal>
     ensures answer { result ≡ all_answers service octets.now count (length out.old) }
     ensures buffer { out.new ≡ all_leaves service octets.now count out.old }
 {
     if !fits(service, octets.len(), count) {
-        return Filled::Refused(Refusal::WrongLength);
+        return Err(Refusal::WrongLength);
     }
     let all = septets_held(service, octets.len(), count);
     if out.len() < all {
-        return Filled::Refused(Refusal::NoRoom);
+        return Err(Refusal::NoRoom);
     }
     unpack_into(octets, all, out);
-    Filled::Done(all)
+    Ok(all)
 }
 
 // Stores the first n elements of an array.
-pub(crate) fn store(array: &[u8; 184], n: usize, out: &mut [u8]) -> Filled
+pub(crate) fn store(array: &[u8; 184], n: usize, out: &mut [u8]) -> Result<usize, Refusal>
     requires { (n ≤ 184) × (length array.now ≡ 184) }
     ensures answer { result ≡ given_answers (take n array.now) (length out.old) }
     ensures buffer { out.new ≡ given_leaves (take n array.now) out.old }
 {
     if out.len() < n {
-        return Filled::Refused(Refusal::NoRoom);
+        return Err(Refusal::NoRoom);
     }
     let mut i: usize = 0;
     while i < n {
         out[i] = array[i];
         i += 1;
     }
-    Filled::Done(n)
+    Ok(n)
 }

@@ -18,27 +18,27 @@ use Rattle.coding.specs.Holding.{is_ucs2, text_rules}
 use Rattle.coding.specs.LanguageLetters.{coding_rules}
 use Rattle.letters.specs.Writing.{first_unlisted}
 use Rattle.demands.specs.MessageWritten.{not_codable}
-use Rattle.pages.specs.declared.Counted.TheVariants as counted
-use Rattle.pages.specs.declared.PagesWritten.TheVariants as written
-use Rattle.pages.specs.declared.Joined.TheVariants as joined
 use Rattle.pages.specs.Blocks.{header_of}
 use Rattle.pages.specs.Parts.{most_pages}
 use Rattle.pages.specs.Written.{size_rules, count_rules, reading_pages, count_answers, build_rules, built_as, pages_rules, pages_answers}
 use Rattle.pages.specs.Joined.{block_at, header_at, total_at, join_rules, join_answers}
 use Rattle.pages.specs.Reports.{counted_pages, pages_pages, join_pages}
+use Rattle.std.specs.Prelude.{Ok, Err}
+use Rattle.pages.specs.Successes.{ok_joined}
+use Rattle.pages.specs.Successes.{ok_pages_written}
 
 -- ---- an answer that is given only where the verdict is accepted
 
-counted-settled : (v : Verdict) (n : ℕ) → (v ≡ accepted → n ≤ 15) → counted_pages (settle v counted.Refused (counted.Pages n)) ≤ 15
+counted-settled : (v : Verdict) (n : ℕ) → (v ≡ accepted → n ≤ 15) → counted_pages (settle v Err (Ok n)) ≤ 15
 counted-settled (refused q) n h = omega arith
 counted-settled accepted n h = h refl
 
-pages-settled : (v : Verdict) (octets n : ℕ) → (v ≡ accepted → n ≤ 15) → pages_pages (settle v written.Refused (written.Done octets n)) ≤ 15
+pages-settled : (v : Verdict) (octets n : ℕ) → (v ≡ accepted → n ≤ 15) → pages_pages (settle v Err (ok_pages_written octets n)) ≤ 15
 pages-settled (refused q) octets n h = omega arith
 pages-settled accepted octets n h = h refl
 
 joined-settled : (v : Verdict) (units : ℕ) (r : Reading) (sequence identifier n : ℕ) → n ≤ 15
-    → join_pages (settle v joined.Refused (joined.Done units r sequence identifier n)) ≤ 15
+    → join_pages (settle v Err (ok_joined units r sequence identifier n)) ≤ 15
 joined-settled (refused q) units r sequence identifier n h = omega arith
 joined-settled accepted units r sequence identifier n h = h
 

@@ -8,14 +8,13 @@
 --   pages_done_answer, join_done_answer                               == the same of a success by itself
 --   page_answer a octets                                              == the answer a of building a page, with its block
 --   pages_refused_answer, page_refused_answer, join_refused_answer    == the same of a refusal by itself
-use Rattle.std.specs.Prelude.{ℕ, List, replicate}
+use Rattle.std.specs.Prelude.{ℕ, List, replicate, Result}
 use Rattle.words.specs.declared.Refusal.{Refusal}
 use Rattle.words.specs.Refusals.{number_of, position_of}
 use Rattle.coding.specs.declared.Reading.{Reading}
 use Rattle.coding.specs.Readings.{unmentioned}
 use Rattle.names.specs.Names.{numbers_of}
 use Rattle.pages.specs.declared.Header.{Header}
-use Rattle.pages.specs.declared.Counted.{Counted}
 use Rattle.pages.specs.declared.Built.{Built}
 use Rattle.pages.specs.declared.PagesWritten.{PagesWritten}
 use Rattle.pages.specs.declared.Joined.{Joined}
@@ -36,10 +35,10 @@ pages_done_answer pages written = record { refusal = 0; pages = pages; position 
 abbrev pub pages_refused_answer : Refusal → PagesAnswer
 pages_refused_answer q = record { refusal = number_of q; pages = 0; position = position_of q; written = 0 }
 
-abbrev pub counted_answer : Counted → PagesAnswer
+abbrev pub counted_answer : Result ℕ Refusal → PagesAnswer
 counted_answer a = record { refusal = counted_number a; pages = counted_pages a; position = counted_position a; written = 0 }
 
-abbrev pub pages_written_answer : PagesWritten → PagesAnswer
+abbrev pub pages_written_answer : Result PagesWritten Refusal → PagesAnswer
 pages_written_answer a = record { refusal = pages_number a; pages = pages_pages a; position = pages_position a; written = pages_written a }
 
 abbrev pub page_answer : PagesAnswer → List ℕ → PageAnswer
@@ -76,7 +75,7 @@ join_refused_answer q =
       reading = numbers_of unmentioned;
     }
 
-abbrev pub joined_answer : Joined → JoinAnswer
+abbrev pub joined_answer : Result Joined Refusal → JoinAnswer
 joined_answer a =
     record {
       refusal = join_number a;

@@ -8,6 +8,7 @@
 --   count-verdict, build-verdict, write-verdict, join-verdict   the verdict that each answer tells
 --   coding-back          the coding octet that is written reads as the reading
 --   blocks-as-length     all pages take 88 octets each
+use Rattle.words.proofs.Rules.{verdict_of}
 use mathlib.Core.Path.{◌≡◌, refl, ap, ◌∙◌, sym, subst}
 use mathlib.Core.Bool.{not}
 use mathlib.Core.List.{List, [], ◌∷◌, ◌++◌}
@@ -24,7 +25,6 @@ use Rattle.filling.proofs.Placing.{lacks-none, none-lacks}
 use Rattle.words.specs.Judging.{when, Verdict, refused, accepted, verdict}
 use Rattle.words.proofs.Judging.{accepted-rule, accepted-parts, accepted-both, settle-told, settle-given}
 use Rattle.coding.specs.declared.Reading.{Reading}
-use Rattle.coding.specs.declared.OctetWritten.TheVariants as octet-written
 use Rattle.coding.specs.OctetRead.{read_under}
 use Rattle.coding.specs.OctetWritten.{smallest}
 use Rattle.coding.specs.LanguageLetters.{coding_rules, coding_writes}
@@ -36,46 +36,37 @@ use Rattle.demands.specs.MessageWritten.{not_codable}
 use Rattle.demands.proofs.Accepting.{text-accepts}
 use Rattle.coding.proofs.Prefixed.{read-given}
 use Rattle.demands.proofs.Steps.{text-accepted, coding-verdict}
-use Rattle.pages.specs.declared.Counted.{Counted}
-use Rattle.pages.specs.declared.Counted.TheVariants as counted
 use Rattle.pages.specs.declared.PagesWritten.{PagesWritten}
-use Rattle.pages.specs.declared.PagesWritten.TheVariants as written
 use Rattle.pages.specs.declared.Joined.{Joined}
-use Rattle.pages.specs.declared.Joined.TheVariants as joined
 use Rattle.pages.specs.Parts.{most_pages}
 use Rattle.pages.specs.Written.{reading_pages, reading_content, block_as, blocks_as, size_rules, count_rules, count_answers, build_rules, built_as, pages_rules, pages_answers, pages_leaves}
 use Rattle.pages.specs.Joined.{header_at, total_at, wrong_pages, joined_text, joined_reading, page_rules, join_rules, join_answers, join_leaves}
 use Rattle.pages.specs.Messages.{PagesWritable, PageBuildable, PagesStorable, PagesJoinable}
 use Rattle.pages.proofs.Blocks.{blocks-length}
-use Rattle.pages.proofs.Steps.{counted_told}
+use Rattle.std.specs.Prelude.{Result, Ok, Err}
+use Rattle.words.specs.declared.Refusal.{Refusal}
+use Rattle.pages.specs.Successes.{ok_joined}
+use Rattle.pages.specs.Successes.{ok_pages_written}
 
 -- ---- the verdict that an answer tells
 
-pub count-verdict : (r : Reading) (t : List ℕ) (a : Counted) → a ≡ count_answers r t → verdict (count_rules r t) ≡ counted_told a
+pub count-verdict : (r : Reading) (t : List ℕ) (a : Result ℕ Refusal) → a ≡ count_answers r t → verdict (count_rules r t) ≡ verdict_of a
 unfolding count_answers
-count-verdict r t a e = settle-told counted_told counted.Refused (counted.Pages (reading_pages r t)) (λ q. refl) refl (verdict (count_rules r t)) a e
+count-verdict r t a e = settle-told verdict_of Err (Ok (reading_pages r t)) (λ q. refl) refl (verdict (count_rules r t)) a e
 
-pub build-verdict : (sequence identifier : ℕ) (r : Reading) (t : List ℕ) (k : ℕ) (a : Counted) → a ≡ (built_as sequence identifier r t k).answer → verdict (build_rules r t k) ≡ counted_told a
+pub build-verdict : (sequence identifier : ℕ) (r : Reading) (t : List ℕ) (k : ℕ) (a : Result ℕ Refusal) → a ≡ (built_as sequence identifier r t k).answer → verdict (build_rules r t k) ≡ verdict_of a
 unfolding built_as
-build-verdict sequence identifier r t k a e = settle-told counted_told counted.Refused (counted.Pages (reading_pages r t)) (λ q. refl) refl (verdict (build_rules r t k)) a e
+build-verdict sequence identifier r t k a e = settle-told verdict_of Err (Ok (reading_pages r t)) (λ q. refl) refl (verdict (build_rules r t k)) a e
 
-abbrev written_told : PagesWritten → Verdict
-written_told (written.Done octets pages) = accepted
-written_told (written.Refused q) = refused q
-
-pub write-verdict : (sequence identifier : ℕ) (r : Reading) (t : List ℕ) (room : ℕ) (a : PagesWritten) → a ≡ pages_answers sequence identifier r t room → verdict (pages_rules sequence identifier r t room) ≡ written_told a
+pub write-verdict : (sequence identifier : ℕ) (r : Reading) (t : List ℕ) (room : ℕ) (a : Result PagesWritten Refusal) → a ≡ pages_answers sequence identifier r t room → verdict (pages_rules sequence identifier r t room) ≡ verdict_of a
 unfolding pages_answers
 write-verdict sequence identifier r t room a e =
-    settle-told written_told written.Refused (written.Done (length (blocks_as sequence identifier r t)) (reading_pages r t)) (λ q. refl) refl (verdict (pages_rules sequence identifier r t room)) a e
+    settle-told verdict_of Err (ok_pages_written (length (blocks_as sequence identifier r t)) (reading_pages r t)) (λ q. refl) refl (verdict (pages_rules sequence identifier r t room)) a e
 
-abbrev joined_told : Joined → Verdict
-joined_told (joined.Done units reading sequence identifier pages) = accepted
-joined_told (joined.Refused q) = refused q
-
-pub join-verdict : (o : List ℕ) (room : ℕ) (a : Joined) → a ≡ join_answers o room → verdict (join_rules o room) ≡ joined_told a
+pub join-verdict : (o : List ℕ) (room : ℕ) (a : Result Joined Refusal) → a ≡ join_answers o room → verdict (join_rules o room) ≡ verdict_of a
 unfolding join_answers
 join-verdict o room a e =
-    settle-told joined_told joined.Refused (joined.Done (length (joined_text (is_ucs2 (joined_reading o).alphabet) o)) (joined_reading o) (header_at o 0).sequence (header_at o 0).identifier (total_at o 0)) (λ q. refl) refl (verdict (join_rules o room)) a e
+    settle-told verdict_of Err (ok_joined (length (joined_text (is_ucs2 (joined_reading o).alphabet) o)) (joined_reading o) (header_at o 0).sequence (header_at o 0).identifier (total_at o 0)) (λ q. refl) refl (verdict (join_rules o room)) a e
 
 -- ---- counting
 
@@ -95,7 +86,7 @@ module _ (r : Reading) (t : List ℕ) where
   unfolding count_rules
   rules-accept w =
       let k = coding-complete Broadcast r w.octet.0 refl w.plain w.octet.1.0 w.octet.1.1 in
-      accepted-both (coding_rules Broadcast r) (text_rules Broadcast r ++ size_rules (is_ucs2 r.alphabet) t) (coding-verdict Broadcast r (octet-written.Done k.0) (sym k.1))
+      accepted-both (coding_rules Broadcast r) (text_rules Broadcast r ++ size_rules (is_ucs2 r.alphabet) t) (coding-verdict Broadcast r (Ok k.0) (sym k.1))
       (accepted-both (text_rules Broadcast r) (size_rules (is_ucs2 r.alphabet) t) (text-accepts Broadcast r w.holds) (size-accepts w))
 
   rules-accepted : verdict (count_rules r t) ≡ accepted → PagesWritable r t
@@ -103,7 +94,7 @@ module _ (r : Reading) (t : List ℕ) where
   rules-accepted e =
       let v = accepted-parts (coding_rules Broadcast r) (text_rules Broadcast r ++ size_rules (is_ucs2 r.alphabet) t) e in
       let w = accepted-parts (text_rules Broadcast r) (size_rules (is_ucs2 r.alphabet) t) v.1 in
-      let o : coding_writes Broadcast r ≡ octet-written.Done (smallest Broadcast r) = settle-given (verdict (coding_rules Broadcast r)) octet-written.Refused (octet-written.Done (smallest Broadcast r)) v.0 in
+      let o : coding_writes Broadcast r ≡ Ok (smallest Broadcast r) = settle-given (verdict (coding_rules Broadcast r)) Err (Ok (smallest Broadcast r)) v.0 in
       let s = settled Broadcast r (smallest Broadcast r) (coding-written Broadcast r (smallest Broadcast r) o).1 in
       let h = text-accepted Broadcast r w.0 in
       let six = accepted-rule (not_codable (is_ucs2 r.alphabet) t) (Unlisted (first_unlisted t)) (when (ltb most_pages (reading_pages r t)) TooLong ∷ []) w.1 in
@@ -116,12 +107,12 @@ module _ (r : Reading) (t : List ℕ) where
         sized = ltb-false _ _ five.0;
       }
 
-  pub count-accepts : PagesWritable r t → count_answers r t ≡ counted.Pages (reading_pages r t)
+  pub count-accepts : PagesWritable r t → count_answers r t ≡ Ok (reading_pages r t)
   unfolding count_answers
-  count-accepts w = settle-given _ counted.Refused _ (rules-accept w)
+  count-accepts w = settle-given _ Err _ (rules-accept w)
 
-  pub count-accepted : (n : ℕ) → count_answers r t ≡ counted.Pages n → PagesWritable r t
-  count-accepted n e = rules-accepted (count-verdict r t (counted.Pages n) (sym e))
+  pub count-accepted : (n : ℕ) → count_answers r t ≡ Ok n → PagesWritable r t
+  count-accepted n e = rules-accepted (count-verdict r t (Ok n) (sym e))
 
 -- ---- building one page
 
@@ -132,14 +123,14 @@ module _ (sequence identifier : ℕ) (r : Reading) (t : List ℕ) (k : ℕ) wher
       accepted-both (count_rules r t) (when (lacks (reading_pages r t) k) WrongPages ∷ []) (rules-accept r t w.writable) (simp (lacks-none (reading_pages r t) k w.some w.most))
 
   pub build-accepts : PageBuildable r t k
-      → ((built_as sequence identifier r t k).answer ≡ counted.Pages (reading_pages r t)) × ((built_as sequence identifier r t k).block ≡ block_as sequence identifier r t k)
+      → ((built_as sequence identifier r t k).answer ≡ Ok (reading_pages r t)) × ((built_as sequence identifier r t k).block ≡ block_as sequence identifier r t k)
   unfolding built_as
-  build-accepts w = (settle-given _ counted.Refused _ (build-rules-accept w), settle-given _ (λ q. replicate 88 0) _ (build-rules-accept w))
+  build-accepts w = (settle-given _ Err _ (build-rules-accept w), settle-given _ (λ q. replicate 88 0) _ (build-rules-accept w))
 
-  pub build-accepted : (n : ℕ) → (built_as sequence identifier r t k).answer ≡ counted.Pages n → PageBuildable r t k
+  pub build-accepted : (n : ℕ) → (built_as sequence identifier r t k).answer ≡ Ok n → PageBuildable r t k
   unfolding build_rules
   build-accepted n e =
-      let v = accepted-parts (count_rules r t) (when (lacks (reading_pages r t) k) WrongPages ∷ []) (build-verdict sequence identifier r t k (counted.Pages n) (sym e)) in
+      let v = accepted-parts (count_rules r t) (when (lacks (reading_pages r t) k) WrongPages ∷ []) (build-verdict sequence identifier r t k (Ok n) (sym e)) in
       let ten = accepted-rule (lacks (reading_pages r t) k) WrongPages [] v.1 in
       let l = none-lacks (reading_pages r t) k ten.0 in
       record { writable = rules-accepted r t v.0; some = l.0; most = l.1 }
@@ -158,15 +149,15 @@ module _ (sequence identifier : ℕ) (r : Reading) (t : List ℕ) where
       accepted-both (count_rules r t) (when (ltb room (length (blocks_as sequence identifier r t))) NoRoom ∷ []) (rules-accept r t w.writable) (simp (le-ltb _ _ fits))
 
   pub write-accepts : (out : List ℕ) → PagesStorable r t (length out)
-      → (pages_answers sequence identifier r t (length out) ≡ written.Done (length (blocks_as sequence identifier r t)) (reading_pages r t))
+      → (pages_answers sequence identifier r t (length out) ≡ ok_pages_written (length (blocks_as sequence identifier r t)) (reading_pages r t))
       × (pages_leaves sequence identifier r t out ≡ laid (blocks_as sequence identifier r t) out)
   unfolding pages_answers pages_leaves
-  write-accepts out w = (settle-given _ written.Refused _ (write-rules-accept (length out) w), settle-given _ (λ q. out) _ (write-rules-accept (length out) w))
+  write-accepts out w = (settle-given _ Err _ (write-rules-accept (length out) w), settle-given _ (λ q. out) _ (write-rules-accept (length out) w))
 
-  pub write-accepted : (room octets pages : ℕ) → pages_answers sequence identifier r t room ≡ written.Done octets pages → PagesStorable r t room
+  pub write-accepted : (room octets pages : ℕ) → pages_answers sequence identifier r t room ≡ ok_pages_written octets pages → PagesStorable r t room
   unfolding pages_rules
   write-accepted room octets pages e =
-      let v = accepted-parts (count_rules r t) (when (ltb room (length (blocks_as sequence identifier r t))) NoRoom ∷ []) (write-verdict sequence identifier r t room (written.Done octets pages) (sym e)) in
+      let v = accepted-parts (count_rules r t) (when (ltb room (length (blocks_as sequence identifier r t))) NoRoom ∷ []) (write-verdict sequence identifier r t room (ok_pages_written octets pages) (sym e)) in
       let seven = accepted-rule (ltb room (length (blocks_as sequence identifier r t))) NoRoom [] v.1 in
       record { writable = rules-accepted r t v.0; fits = omega (arith, ltb-false room (length (blocks_as sequence identifier r t)) seven.0, blocks-as-length sequence identifier r t) }
 
@@ -184,17 +175,17 @@ module _ (o : List ℕ) where
       (accepted-both (text_rules Broadcast (joined_reading o)) (page_rules (is_ucs2 (joined_reading o).alphabet) o room) (text-accepts Broadcast (joined_reading o) w.holds) (page-rules-accept room w))
 
   pub join-accepts : (out : List ℕ) → PagesJoinable o (length out)
-      → (join_answers o (length out) ≡ joined.Done (length (joined_text (is_ucs2 (joined_reading o).alphabet) o)) (joined_reading o) (header_at o 0).sequence (header_at o 0).identifier (total_at o 0))
+      → (join_answers o (length out) ≡ ok_joined (length (joined_text (is_ucs2 (joined_reading o).alphabet) o)) (joined_reading o) (header_at o 0).sequence (header_at o 0).identifier (total_at o 0))
       × (join_leaves o out ≡ laid (joined_text (is_ucs2 (joined_reading o).alphabet) o) out)
   unfolding join_answers join_leaves
-  join-accepts out w = (settle-given _ joined.Refused _ (join-rules-accept (length out) w), settle-given _ (λ q. out) _ (join-rules-accept (length out) w))
+  join-accepts out w = (settle-given _ Err _ (join-rules-accept (length out) w), settle-given _ (λ q. out) _ (join-rules-accept (length out) w))
 
-  pub join-accepted : (room units : ℕ) (r : Reading) (sequence identifier pages : ℕ) → join_answers o room ≡ joined.Done units r sequence identifier pages → PagesJoinable o room
+  pub join-accepted : (room units : ℕ) (r : Reading) (sequence identifier pages : ℕ) → join_answers o room ≡ ok_joined units r sequence identifier pages → PagesJoinable o room
   unfolding join_rules page_rules
   join-accepted room units read sequence identifier pages e =
       let r : Reading = joined_reading o in
       let text : List ℕ = joined_text (is_ucs2 (joined_reading o).alphabet) o in
-      let four = accepted-rule (not (eqb (length o % 88) 0)) WrongLength (when (eqb (length o) 0) WrongPages ∷ (text_rules Broadcast r ++ page_rules (is_ucs2 r.alphabet) o room)) (join-verdict o room (joined.Done units read sequence identifier pages) (sym e)) in
+      let four = accepted-rule (not (eqb (length o % 88) 0)) WrongLength (when (eqb (length o) 0) WrongPages ∷ (text_rules Broadcast r ++ page_rules (is_ucs2 r.alphabet) o room)) (join-verdict o room (ok_joined units read sequence identifier pages) (sym e)) in
       let none = accepted-rule (eqb (length o) 0) WrongPages (text_rules Broadcast r ++ page_rules (is_ucs2 r.alphabet) o room) four.1 in
       let v = accepted-parts (text_rules Broadcast r) (page_rules (is_ucs2 r.alphabet) o room) none.1 in
       let ten = accepted-rule (wrong_pages o) WrongPages (when (ltb room (length text)) NoRoom ∷ []) v.1 in

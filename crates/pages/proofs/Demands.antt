@@ -40,10 +40,7 @@ use Rattle.demands.proofs.Unlettered.{octets-same}
 use Rattle.demands.proofs.Accepting.{write-accepts as message-accepts}
 use Rattle.demands.proofs.Demands.{take-laid, sent-octets}
 use Rattle.pages.specs.declared.Header.{Header}
-use Rattle.pages.specs.declared.Counted.TheVariants as counted
 use Rattle.pages.specs.declared.PagesWritten.{PagesWritten}
-use Rattle.pages.specs.declared.PagesWritten.TheVariants as written
-use Rattle.pages.specs.declared.Joined.TheVariants as joined
 use Rattle.pages.specs.Blocks.{block_of}
 use Rattle.pages.specs.Parts.{page_room, content_of, page_text}
 use Rattle.pages.specs.Written.{reading_pages, reading_content, block_as, blocks_from, blocks_as, built_as, pages_answers}
@@ -56,6 +53,10 @@ use Rattle.pages.proofs.Accepting.{coding-back, build-accepts, write-accepts, wr
 use Rattle.pages.proofs.Placing.{right-read-once, read-once-right}
 use Rattle.pages.proofs.Contents.{page-text-filled, filled-behind, closed-text, closed-content}
 use Rattle.pages.proofs.Orders.{written_at, in_order, order-header, any-order-read-once, any-order-content}
+use Rattle.std.specs.Prelude.{Result, Ok, Err}
+use Rattle.words.specs.declared.Refusal.{Refusal}
+use Rattle.pages.specs.Successes.{ok_joined}
+use Rattle.pages.specs.Successes.{ok_pages_written}
 
 -- ---- what a call that accepted its text has sent
 
@@ -63,9 +64,9 @@ module _ (sequence identifier : ℕ) (r : Reading) (t out : List ℕ) (a : Sends
   pub sent-storable : PagesStorable r t (length out)
   sent-storable = go (pages_answers sequence identifier r t (length out)) refl a
     where
-      go : (x : PagesWritten) → pages_answers sequence identifier r t (length out) ≡ x → pages_number x ≡ 0 → PagesStorable r t (length out)
-      go (written.Done o p) e z = write-accepted sequence identifier r t (length out) o p e
-      go (written.Refused q) e z = absurd (omega (arith, number-above-0 q))
+      go : (x : Result PagesWritten Refusal) → pages_answers sequence identifier r t (length out) ≡ x → pages_number x ≡ 0 → PagesStorable r t (length out)
+      go (Ok w) e z = write-accepted sequence identifier r t (length out) w.octets w.pages e
+      go (Err q) e z = absurd (omega (arith, number-above-0 q))
 
   pub sent-writable : PagesWritable r t
   sent-writable = sent-storable.writable
@@ -108,8 +109,8 @@ module _ (sequence identifier : ℕ) (r : Reading) (t : List ℕ) (w : PagesWrit
           fits = subst (λ (l : List ℕ). length l ≤ length back) (sym held) room;
         } in (
           a.0
-              ∙ ap₂ (λ (l : List ℕ) (q : Reading). joined.Done (length l) q (header_at o 0).sequence (header_at o 0).identifier (total_at o 0)) held reads
-              ∙ ap (λ (h : Header). joined.Done (length (without_closing 0x000d t)) r h.sequence h.identifier h.total) first,
+              ∙ ap₂ (λ (l : List ℕ) (q : Reading). ok_joined (length l) q (header_at o 0).sequence (header_at o 0).identifier (total_at o 0)) held reads
+              ∙ ap (λ (h : Header). ok_joined (length (without_closing 0x000d t)) r h.sequence h.identifier h.total) first,
           a.1 ∙ ap (λ (l : List ℕ). laid l back) held,
         )
 
@@ -127,7 +128,7 @@ join-unique o r s a b c d p q t u x y =
     let long : length out ≡ length t + length u = length-replicate (length t + length u) 0 in
     let m = x out (omega arith) in
     let n = y out (omega arith) in
-    let same : joined.Done (length t) r a c p ≡ joined.Done (length u) s b d q = sym m.0 ∙ n.0 in
+    let same : ok_joined (length t) r a c p ≡ ok_joined (length u) s b d q = sym m.0 ∙ n.0 in
     let size : length t ≡ length u = cc in
     ((cc), (cc), (cc), (cc), sym (take-laid t out) ∙ ap₂ take size (sym m.1 ∙ n.1) ∙ take-laid u out)
 
@@ -191,7 +192,7 @@ coding-same-iff r r' t u v w = (λ e. sym (coding-back r t v).1 ∙ ap (read_und
 
 -- ---- what is joined is what was checked
 
-pub join-reads-once : (o : List ℕ) (room units : ℕ) (r : Reading) (sequence identifier pages : ℕ) → join_answers o room ≡ joined.Done units r sequence identifier pages → ReadOnce o
+pub join-reads-once : (o : List ℕ) (room units : ℕ) (r : Reading) (sequence identifier pages : ℕ) → join_answers o room ≡ ok_joined units r sequence identifier pages → ReadOnce o
 join-reads-once o room units r sequence identifier pages e = right-read-once o (join-accepted o room units r sequence identifier pages e).right
 
 -- ---- pages and messages of one page
@@ -222,7 +223,7 @@ module _ (sequence identifier : ℕ) (r : Reading) (t out : List ℕ) (a : Sends
       ∙ order-header sequence identifier r t (sent-writable sequence identifier r t out a).sized (blocks_as sequence identifier r t) (in_order sequence identifier r t) i h
 
   pub build-is-written : (k : ℕ) → 1 ≤ k → k ≤ reading_pages r t
-      → ((built_as sequence identifier r t k).answer ≡ counted.Pages (reading_pages r t)) × ((built_as sequence identifier r t k).block ≡ block_at (sent_blocks sequence identifier r t out) (k - 1))
+      → ((built_as sequence identifier r t k).answer ≡ Ok (reading_pages r t)) × ((built_as sequence identifier r t k).block ≡ block_at (sent_blocks sequence identifier r t out) (k - 1))
   build-is-written k some most =
       let b = build-accepts sequence identifier r t k record { writable = sent-writable sequence identifier r t out a; some = some; most = most } in
       let which : 1 + (k - 1) ≡ k = omega arith in (

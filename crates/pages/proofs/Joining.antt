@@ -14,7 +14,6 @@ use borrow.Author.Tests.{not-true, not-false, lt-ltb, le-ltb, lt-leb, eq-eqb, ne
 use Rattle.words.specs.declared.Service.TheVariants.{Broadcast}
 use Rattle.words.specs.declared.Refusal.{Refusal}
 use Rattle.words.specs.declared.Refusal.TheVariants.{WrongLength, WrongPages}
-use Rattle.words.specs.declared.Filled.TheVariants as filled
 use Rattle.words.specs.Judging.{Verdict, refused, accepted, verdict, settle}
 use Rattle.words.proofs.Judging.{verdict-refused-first, verdict-accepted-first}
 use Rattle.lists.specs.Lists.{first_wide, laid}
@@ -34,8 +33,6 @@ use Rattle.stream.proofs.Numbers.{digits-below, group-within}
 use Rattle.stream.proofs.Stream.{unpacked-length, unpacked-digits}
 use Rattle.stream.proofs.UnitOctets.{octet-units-length}
 use Rattle.coding.specs.declared.Reading.{Reading}
-use Rattle.coding.specs.declared.OctetRead.TheVariants as octet-read
-use Rattle.coding.specs.declared.Held.TheVariants as held
 use Rattle.coding.specs.OctetRead.{octet_rules, read_under, octet_reads}
 use Rattle.coding.specs.Holding.{is_ucs2, text_rules as held_rules, holds_text}
 use Rattle.coding.proofs.Prefixed.{read-given}
@@ -43,7 +40,6 @@ use Rattle.demands.proofs.Steps.{held-verdict, leaves-agree, held_as, told_text,
 use Rattle.letters.specs.Reading.{text_of, text_rules, text_answers, text_leaves}
 use Rattle.pages.specs.declared.Header.{Header}
 use Rattle.pages.specs.declared.Order.{Order}
-use Rattle.pages.specs.declared.Joined.TheVariants as joined
 use Rattle.pages.specs.Blocks.{header_of, text_in}
 use Rattle.pages.specs.Parts.{page_room}
 use Rattle.pages.specs.Joined.{block_count, block_at, header_at, number_at, total_at, place_of, wrong_pages, page_content, joined_from, joined_content, joined_text, joined_reading, page_rules, join_rules, join_answers, join_leaves}
@@ -51,6 +47,9 @@ use Rattle.pages.specs.Ordered.{block_or_zeros, table_of, no_order, order_of}
 use Rattle.pages.proofs.Placing.{right-read-once, total-small}
 use Rattle.pages.proofs.Table.{block_here}
 use Rattle.pages.specs.Inner.{text_joins, text_join_leaves, held_joins, held_join_leaves, joined_as, Places}
+use Rattle.std.specs.Prelude.{Ok, Err}
+use Rattle.coding.specs.declared.Held.TheVariants as held
+use Rattle.pages.specs.Successes.{ok_joined}
 
 -- ---- a page that is there
 
@@ -246,7 +245,7 @@ module _ (o : List ℕ) (r : Order) (e : r ≡ order_of o) where
       let table : r.places ≡ table_of o = ap (λ (x : Order). x.places) e ∙ ap (λ (b : Bool). cond b (replicate 16 0) (table_of o)) none in
       (right, subst (Places o) (sym table) (table-places o right))
 
-  pub order-wrong : (ucs2 : Bool) (out : List ℕ) → 88 ≤ length o → r.right ≡ false → (filled.Refused WrongPages ≡ text_joins ucs2 o (length out)) × (out ≡ text_join_leaves ucs2 o out)
+  pub order-wrong : (ucs2 : Bool) (out : List ℕ) → 88 ≤ length o → r.right ≡ false → (Err WrongPages ≡ text_joins ucs2 o (length out)) × (out ≡ text_join_leaves ucs2 o out)
   unfolding order_of no_order text_joins text_join_leaves page_rules verdict
   order-wrong ucs2 out some t =
       let none : no_order o ≡ true = not-false (no_order o) (sym (ap (λ (x : Order). x.right) e) ∙ t) in
@@ -256,13 +255,13 @@ module _ (o : List ℕ) (r : Order) (e : r ≡ order_of o) where
 -- ---- by what the coding octet of the first block is read as
 
 joined-settle : (v : Verdict) (n : ℕ) (h : Header) (r : Reading)
-    → joined_as h r (settle v filled.Refused (filled.Done n)) ≡ settle v joined.Refused (joined.Done n r h.sequence h.identifier h.total)
+    → joined_as h r (settle v Err (Ok n)) ≡ settle v Err (ok_joined n r h.sequence h.identifier h.total)
 joined-settle (refused q) n h r = refl
 joined-settle accepted n h r = refl
 
 joined-agree : (h : Header) (r : Reading) {v w : Verdict} {x y : List ℕ} → v ≡ w → x ≡ y
-    → settle w joined.Refused (joined.Done (length y) r h.sequence h.identifier h.total) ≡ settle v joined.Refused (joined.Done (length x) r h.sequence h.identifier h.total)
-joined-agree h r e t = sym (ap₂ (λ (w : Verdict) (x : List ℕ). settle w joined.Refused (joined.Done (length x) r h.sequence h.identifier h.total)) e t)
+    → settle w Err (ok_joined (length y) r h.sequence h.identifier h.total) ≡ settle v Err (ok_joined (length x) r h.sequence h.identifier h.total)
+joined-agree h r e t = sym (ap₂ (λ (w : Verdict) (x : List ℕ). settle w Err (ok_joined (length x) r h.sequence h.identifier h.total)) e t)
 
 module _ (h : Header) (r : Reading) (o out : List ℕ) where
   pub held-joins : (ucs2 : Bool) → held_as ucs2 ≡ holds_text Broadcast r
@@ -277,18 +276,18 @@ module _ (h : Header) (r : Reading) (o out : List ℕ) where
       let t = ap (λ (x : Bool). joined_text x o) b in
       (joined-settle (verdict (page_rules ucs2 o (length out))) (length (joined_text ucs2 o)) h r ∙ joined-agree h r v t, leaves-agree out v t)
 
-  pub held_none : (q : Refusal) → held.Refused q ≡ holds_text Broadcast r
-      → (joined.Refused q ≡ held_joins h r o (length out)) × (out ≡ held_join_leaves r o out)
+  pub held_none : (q : Refusal) → Err q ≡ holds_text Broadcast r
+      → (Err q ≡ held_joins h r o (length out)) × (out ≡ held_join_leaves r o out)
   unfolding held_joins held_join_leaves
   held_none q e =
-      let v = verdict-refused-first (held_rules Broadcast r) (page_rules (is_ucs2 r.alphabet) o (length out)) q (held-verdict Broadcast r (held.Refused q) e) in
+      let v = verdict-refused-first (held_rules Broadcast r) (page_rules (is_ucs2 r.alphabet) o (length out)) q (held-verdict Broadcast r (Err q) e) in
       let x = joined_text (is_ucs2 r.alphabet) o in
       (joined-agree h r {x = x} v refl, leaves-agree {x = x} out v refl)
 
 -- ---- the whole call
 
 -- a broadcast page's coding octet is never refused by itself
-pub octet-read-here : (coding : ℕ) (q : Refusal) → octet-read.Refused q ≡ octet_reads Broadcast coding → ⊥
+pub octet-read-here : (coding : ℕ) (q : Refusal) → Err q ≡ octet_reads Broadcast coding → ⊥
 unfolding octet_reads octet_rules verdict
 octet-read-here coding q e = let z : ◌≡◌ {A = ℕ} 0 1 = cc in omega arith
 
@@ -297,11 +296,11 @@ unfolding header_at block_or_zeros
 first-header o h = simp (lt-ltb 0 (block_count o) (omega arith))
 
 module _ (o out : List ℕ) where
-  pub join-broken : (length o % 88 ≡ 0 → ⊥) → (joined.Refused WrongLength ≡ join_answers o (length out)) × (out ≡ join_leaves o out)
+  pub join-broken : (length o % 88 ≡ 0 → ⊥) → (Err WrongLength ≡ join_answers o (length out)) × (out ≡ join_leaves o out)
   unfolding join_answers join_leaves join_rules verdict
   join-broken h = simp (ne_eqb (length o % 88) 0 h) (refl, refl)
 
-  pub join-none : length o % 88 ≡ 0 → length o ≡ 0 → (joined.Refused WrongPages ≡ join_answers o (length out)) × (out ≡ join_leaves o out)
+  pub join-none : length o % 88 ≡ 0 → length o ≡ 0 → (Err WrongPages ≡ join_answers o (length out)) × (out ≡ join_leaves o out)
   unfolding join_answers join_leaves join_rules verdict
   join-none h z = simp (eq-eqb (length o % 88) 0 h, eq-eqb (length o) 0 z) (refl, refl)
 
@@ -318,7 +317,7 @@ module _ (o out : List ℕ) where
       let x = joined_text (is_ucs2 (joined_reading o).alphabet) o in
       (joined-agree (header_at o 0) (joined_reading o) {x = x} v refl, leaves-agree {x = x} out v refl)
 
-  pub join-read : (h : Header) (r : Reading) → length o % 88 ≡ 0 → (length o ≡ 0 → ⊥) → h ≡ header_at o 0 → octet-read.Done r ≡ octet_reads Broadcast h.coding
+  pub join-read : (h : Header) (r : Reading) → length o % 88 ≡ 0 → (length o ≡ 0 → ⊥) → h ≡ header_at o 0 → Ok r ≡ octet_reads Broadcast h.coding
       → (held_joins h r o (length out) ≡ join_answers o (length out)) × (held_join_leaves r o out ≡ join_leaves o out)
   join-read h r whole some e d =
       let same : r ≡ joined_reading o = sym (read-given Broadcast h.coding r d) ∙ ap (λ (x : Header). read_under Broadcast x.coding) e in

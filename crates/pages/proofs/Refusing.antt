@@ -19,15 +19,14 @@ use Rattle.coding.specs.Readings.{unmentioned}
 use Rattle.coding.specs.OctetWritten.{write_rules as alone_rules}
 use Rattle.coding.specs.LanguageLetters.{coding_rules}
 use Rattle.coding.specs.Holding.{text_rules}
-use Rattle.pages.specs.declared.Counted.TheVariants as counted
-use Rattle.pages.specs.declared.PagesWritten.TheVariants as written
-use Rattle.pages.specs.declared.Joined.TheVariants as joined
 use Rattle.pages.specs.Written.{size_rules, count_rules, count_answers, build_rules, built_as, pages_rules, pages_answers, pages_leaves}
 use Rattle.pages.specs.Joined.{block_count, total_at, wrong_pages, page_rules, join_rules, join_answers, join_leaves}
 use Rattle.pages.specs.Reports.{counted_number, counted_position, counted_pages, pages_number, pages_position, pages_written, pages_pages, join_number, join_position, join_written, join_reading, join_sequence, join_identifier, join_pages}
 use Rattle.pages.specs.Messages.{count_numbers, build_numbers, write_numbers, join_numbers, one_of}
 use Rattle.pages.proofs.Accepting.{count-verdict, build-verdict, write-verdict, join-verdict, join-accepted}
 use Rattle.pages.proofs.Placing.{total-0-wrong, over-15-wrong}
+use Rattle.std.specs.Prelude.{Err}
+use Rattle.pages.specs.Successes.{ok_joined}
 
 -- a refused call leaves what it came with
 kept : {A : Type 0} (v : Verdict) (q : Refusal) (out x : A) → v ≡ refused q → settle v (λ r. out) x ≡ out
@@ -48,7 +47,7 @@ given (when true p ∷ rules) ns q t e = rw (same p q e) at (both_left (one_of (
     same p q e = cc
 given (when false p ∷ rules) ns q t e = given rules ns q (both_right (one_of (number_of p) ns) (each_of rules ns) t) e
 
-pub count-refuses : (r : Reading) (t : List ℕ) (q : Refusal) → count_answers r t ≡ counted.Refused q
+pub count-refuses : (r : Reading) (t : List ℕ) (q : Refusal) → count_answers r t ≡ Err q
     → (counted_number (count_answers r t) ≡ number_of q)
     × (counted_position (count_answers r t) ≡ position_of q)
     × (counted_pages (count_answers r t) ≡ 0)
@@ -58,10 +57,10 @@ count-refuses r t q e = (
   ap counted_number e,
   ap counted_position e,
   ap counted_pages e,
-  given (count_rules r t) count_numbers q tt (count-verdict r t (counted.Refused q) (sym e)),
+  given (count_rules r t) count_numbers q tt (count-verdict r t (Err q) (sym e)),
 )
 
-pub build-refuses : (sequence identifier : ℕ) (r : Reading) (t : List ℕ) (k : ℕ) (q : Refusal) → (built_as sequence identifier r t k).answer ≡ counted.Refused q
+pub build-refuses : (sequence identifier : ℕ) (r : Reading) (t : List ℕ) (k : ℕ) (q : Refusal) → (built_as sequence identifier r t k).answer ≡ Err q
     → (counted_number (built_as sequence identifier r t k).answer ≡ number_of q)
     × (counted_position (built_as sequence identifier r t k).answer ≡ position_of q)
     × (counted_pages (built_as sequence identifier r t k).answer ≡ 0)
@@ -69,10 +68,10 @@ pub build-refuses : (sequence identifier : ℕ) (r : Reading) (t : List ℕ) (k 
     × T (one_of (number_of q) build_numbers)
 unfolding built_as each_of build_rules count_rules coding_rules alone_rules text_rules size_rules
 build-refuses sequence identifier r t k q e =
-    let v = build-verdict sequence identifier r t k (counted.Refused q) (sym e) in
+    let v = build-verdict sequence identifier r t k (Err q) (sym e) in
     (ap counted_number e, ap counted_position e, ap counted_pages e, kept (verdict (build_rules r t k)) q (replicate 88 0) _ v, given (build_rules r t k) build_numbers q tt v)
 
-pub write-refuses : (sequence identifier : ℕ) (r : Reading) (t out : List ℕ) (q : Refusal) → pages_answers sequence identifier r t (length out) ≡ written.Refused q
+pub write-refuses : (sequence identifier : ℕ) (r : Reading) (t out : List ℕ) (q : Refusal) → pages_answers sequence identifier r t (length out) ≡ Err q
     → (pages_number (pages_answers sequence identifier r t (length out)) ≡ number_of q)
     × (pages_position (pages_answers sequence identifier r t (length out)) ≡ position_of q)
     × (pages_written (pages_answers sequence identifier r t (length out)) ≡ 0)
@@ -81,7 +80,7 @@ pub write-refuses : (sequence identifier : ℕ) (r : Reading) (t out : List ℕ)
     × T (one_of (number_of q) write_numbers)
 unfolding pages_leaves each_of pages_rules count_rules coding_rules alone_rules text_rules size_rules
 write-refuses sequence identifier r t out q e =
-    let v = write-verdict sequence identifier r t (length out) (written.Refused q) (sym e) in (
+    let v = write-verdict sequence identifier r t (length out) (Err q) (sym e) in (
       ap pages_number e,
       ap pages_position e,
       ap pages_written e,
@@ -90,7 +89,7 @@ write-refuses sequence identifier r t out q e =
       given (pages_rules sequence identifier r t (length out)) write_numbers q tt v,
     )
 
-pub join-refuses : (o out : List ℕ) (q : Refusal) → join_answers o (length out) ≡ joined.Refused q
+pub join-refuses : (o out : List ℕ) (q : Refusal) → join_answers o (length out) ≡ Err q
     → (join_number (join_answers o (length out)) ≡ number_of q)
     × (join_position (join_answers o (length out)) ≡ position_of q)
     × (join_written (join_answers o (length out)) ≡ 0)
@@ -102,7 +101,7 @@ pub join-refuses : (o out : List ℕ) (q : Refusal) → join_answers o (length o
     × T (one_of (number_of q) join_numbers)
 unfolding join_leaves each_of join_rules text_rules page_rules
 join-refuses o out q e =
-    let v = join-verdict o (length out) (joined.Refused q) (sym e) in (
+    let v = join-verdict o (length out) (Err q) (sym e) in (
       ap join_number e,
       ap join_position e,
       ap join_written e,
@@ -114,7 +113,7 @@ join-refuses o out q e =
       given (join_rules o (length out)) join_numbers q tt v,
     )
 
-module _ (o : List ℕ) (room units : ℕ) (r : Reading) (sequence identifier pages : ℕ) (e : join_answers o room ≡ joined.Done units r sequence identifier pages) where
+module _ (o : List ℕ) (room units : ℕ) (r : Reading) (sequence identifier pages : ℕ) (e : join_answers o room ≡ ok_joined units r sequence identifier pages) where
   not-wrong : wrong_pages o ≡ true → ⊥
   not-wrong w = let right : wrong_pages o ≡ false = (join-accepted o room units r sequence identifier pages e).right in let z : ◌≡◌ {A = ℕ} 0 1 = cc in omega arith
 

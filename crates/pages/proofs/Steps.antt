@@ -1,6 +1,7 @@
 -- How the calls that count, build and write pages come to their verdict, one step after the other. Assumes nothing.
 --   paged-over, paged-none, paged-some      how many pages n take, by the code's own sums
 --   sized-units, sized-septets, sized-unlisted   the verdict on a text by itself: 6, 5
+use Rattle.words.proofs.Rules.{verdict_of}
 use mathlib.Core.Path.{◌≡◌, refl, ap, ap₂, ◌∙◌, sym, subst}
 use mathlib.Core.Bool.{Bool, true, false, cond}
 use mathlib.Core.List.{List, [], ◌∷◌, ◌++◌}
@@ -24,8 +25,6 @@ use Rattle.words.specs.declared.Refusal.TheVariants.{Unlisted, TooLong, NoRoom, 
 use Rattle.words.specs.Judging.{Rule, when, Verdict, verdict, refused, accepted}
 use Rattle.words.proofs.Judging.{verdict-refused-first, verdict-accepted-first, accepted-rule, settle-told, settle-given}
 use Rattle.letters.specs.declared.Encoded.{Encoded}
-use Rattle.letters.specs.declared.Measured.{Measured}
-use Rattle.letters.specs.declared.Measured.TheVariants.{Septets, Stopped}
 use Rattle.letters.specs.Writing.{septets_of, first_unlisted, listed_front, encoded_as, encoded_leaves, measured}
 use Rattle.stream.specs.Stream.{packed}
 use Rattle.stream.specs.Pages.{page, page_octets}
@@ -35,29 +34,28 @@ use Rattle.stream.proofs.Sent.{low_narrow}
 use Rattle.stream.proofs.Theorems.{page-octets-length}
 use Rattle.demands.specs.MessageWritten.{not_codable}
 use Rattle.demands.proofs.Demands.{take-laid}
-use Rattle.pages.specs.declared.Counted.{Counted}
-use Rattle.pages.specs.declared.Counted.TheVariants.{Pages, Refused}
 use Rattle.pages.specs.declared.Built.{Built}
-use Rattle.pages.specs.declared.PagesWritten.TheVariants as written
 use Rattle.pages.specs.Parts.{most_pages, page_room, content_of, pages_holding, pages_of}
 use Rattle.pages.specs.Written.{page_block, blocks_from, size_rules}
 use Rattle.pages.specs.Inner.{sized_as, paged_as, refused_built, text_built, text_blocks, text_pages, text_pages_leaves}
 use Rattle.pages.proofs.Blocks.{blocks-length}
+use Rattle.std.specs.Prelude.{Result, Ok, Err}
+use Rattle.pages.specs.Successes.{ok_pages_written}
 
 -- ---- how many pages
 
-paged-are : (room n k : ℕ) → pages_holding room n ≡ k → k ≤ 15 → paged_as room n ≡ Pages k
+paged-are : (room n k : ℕ) → pages_holding room n ≡ k → k ≤ 15 → paged_as room n ≡ Ok k
 unfolding paged_as verdict
 paged-are room n k e h = simp (e, le-ltb 15 k h)
 
-pub paged-over : (room n : ℕ) → 15 * room < n → paged_as room n ≡ Refused TooLong
+pub paged-over : (room n : ℕ) → 15 * room < n → paged_as room n ≡ Err TooLong
 unfolding paged_as verdict
 paged-over room n h = simp (lt-ltb 15 (pages_holding room n) ((fewest-over 15 room n (omega arith)).1 (omega (arith, mul_comm room 15))))
 
-pub paged-none : (room n : ℕ) → n ≡ 0 → paged_as room n ≡ Pages 1
+pub paged-none : (room n : ℕ) → n ≡ 0 → paged_as room n ≡ Ok 1
 paged-none room n e = paged-are room n 1 (fewest-are 15 room n 1 (omega arith) (omega arith) (omega arith) (inl refl)) (omega arith)
 
-pub paged-some : (room n : ℕ) → 0 < room → 0 < n → n ≤ 15 * room → paged_as room n ≡ Pages ((n + room - 1) / room)
+pub paged-some : (room n : ℕ) → 0 < room → 0 < n → n ≤ 15 * room → paged_as room n ≡ Ok ((n + room - 1) / room)
 paged-some room n some few fits =
     let fit : n ≤ room * 15 = omega (arith, mul_comm room 15) in
     let sum : pages_holding room n ≡ (n + room - 1) / room = fewest-sum 15 room n some few fit in
@@ -73,32 +71,32 @@ pub sized-septets : (units : List ℕ) → length units ≤ first_unlisted units
 unfolding sized_as paged_as size_rules verdict
 sized-septets units h = simp (le-ltb (first_unlisted units) (length units) h)
 
-pub sized-unlisted : (units : List ℕ) → first_unlisted units < length units → sized_as false units ≡ Refused (Unlisted (first_unlisted units))
+pub sized-unlisted : (units : List ℕ) → first_unlisted units < length units → sized_as false units ≡ Err (Unlisted (first_unlisted units))
 unfolding sized_as size_rules verdict
 sized-unlisted units h = simp (lt-ltb (first_unlisted units) (length units) h)
 
 -- ---- a text as it is measured and encoded
 
 -- how many pages a 7-bit text takes, by what it measures
-abbrev sized_by : Measured → Counted
-sized_by (Septets n) = paged_as 93 n
-sized_by (Stopped u) = Refused (Unlisted u)
+abbrev sized_by : Result ℕ ℕ → Result ℕ Refusal
+sized_by (Ok n) = paged_as 93 n
+sized_by (Err u) = Err (Unlisted u)
 
-pub measured-sized : (t : List ℕ) (m : Measured) → m ≡ measured t → sized_by m ≡ sized_as false t
+pub measured-sized : (t : List ℕ) (m : Result ℕ ℕ) → m ≡ measured t → sized_by m ≡ sized_as false t
 unfolding measured
 measured-sized t m e = elim (dec_le (length t) (first_unlisted t)) [
-  | yes h ↦ let whole : m ≡ Septets (length (septets_of t)) = e ∙ simp (le-ltb (first_unlisted t) (length t) h) in ap sized_by whole ∙ sym (sized-septets t h)
+  | yes h ↦ let whole : m ≡ Ok (length (septets_of t)) = e ∙ simp (le-ltb (first_unlisted t) (length t) h) in ap sized_by whole ∙ sym (sized-septets t h)
   | no h ↦
       let less : first_unlisted t < length t = omega arith in
-      let stop : m ≡ Stopped (first_unlisted t) = e ∙ simp (lt-ltb (first_unlisted t) (length t) less) in
+      let stop : m ≡ Err (first_unlisted t) = e ∙ simp (lt-ltb (first_unlisted t) (length t) less) in
       ap sized_by stop ∙ sym (sized-unlisted t less)
 ]
 
-pub encoded-stopped : (t : List ℕ) (w : Encoded) → w ≡ encoded_as t → w.units < length t → (Refused (Unlisted w.units) ≡ sized_as false t) × (w.septets ≡ length (septets_of (listed_front t)))
+pub encoded-stopped : (t : List ℕ) (w : Encoded) → w ≡ encoded_as t → w.units < length t → (Err (Unlisted w.units) ≡ sized_as false t) × (w.septets ≡ length (septets_of (listed_front t)))
 unfolding encoded_as
 encoded-stopped t w e h =
     let u : w.units ≡ first_unlisted t = ap (λ (x : Encoded). x.units) e in
-    (ap (λ (n : ℕ). Refused (Unlisted n)) u ∙ sym (sized-unlisted t (omega arith)), ap (λ (x : Encoded). x.septets) e)
+    (ap (λ (n : ℕ). Err (Unlisted n)) u ∙ sym (sized-unlisted t (omega arith)), ap (λ (x : Encoded). x.septets) e)
 
 -- a text without an unlisted unit is encoded whole
 pub front-whole : (t : List ℕ) → length t ≤ first_unlisted t → listed_front t ≡ t
@@ -125,18 +123,13 @@ pub record Fits (ucs2 : Bool) (t : List ℕ) (total : ℕ) : Type 0 where
   pub codable : not_codable ucs2 t ≡ false
   pub allowed : verdict (size_rules ucs2 t) ≡ accepted
 
--- the verdict that an answer tells
-abbrev pub counted_told : Counted → Verdict
-counted_told (Pages n) = accepted
-counted_told (Refused q) = refused q
-
-pub sized-fits : (ucs2 : Bool) (t : List ℕ) (total : ℕ) → Pages total ≡ sized_as ucs2 t → Fits ucs2 t total
+pub sized-fits : (ucs2 : Bool) (t : List ℕ) (total : ℕ) → Ok total ≡ sized_as ucs2 t → Fits ucs2 t total
 unfolding sized_as size_rules
 sized-fits ucs2 t total e =
     let room : ℕ = page_room ucs2 in
     let n : ℕ = length (content_of ucs2 t) in
-    let v : verdict (size_rules ucs2 t) ≡ accepted = settle-told counted_told Refused (Pages (pages_of ucs2 t)) (λ q. refl) refl (verdict (size_rules ucs2 t)) (Pages total) e in
-    let same : Pages total ≡ Pages (pages_of ucs2 t) = e ∙ settle-given (verdict (size_rules ucs2 t)) Refused (Pages (pages_of ucs2 t)) v in
+    let v : verdict (size_rules ucs2 t) ≡ accepted = settle-told verdict_of Err (Ok (pages_of ucs2 t)) (λ q. refl) refl (verdict (size_rules ucs2 t)) (Ok total) e in
+    let same : Ok total ≡ Ok (pages_of ucs2 t) = e ∙ settle-given (verdict (size_rules ucs2 t)) Err (Ok (pages_of ucs2 t)) v in
     let pages : total ≡ pages_holding room n = cc in
     let first = accepted-rule (not_codable ucs2 t) (Unlisted (first_unlisted t)) (when (ltb most_pages (pages_of ucs2 t)) TooLong ∷ []) v in
     let most : pages_holding room n ≤ 15 = ltb-false most_pages (pages_holding room n) (accepted-rule (ltb most_pages (pages_of ucs2 t)) TooLong [] first.1).0 in
@@ -160,7 +153,7 @@ pub record Gathered (ucs2 : Bool) (t : List ℕ) (total n : ℕ) (a : List ℕ) 
   pub content : cond ucs2 t (take n a) ≡ content_of ucs2 t
 
 pub gathered : (ucs2 : Bool) (t : List ℕ) (n : ℕ) (z a : List ℕ) → length z ≡ 1395 → n ≡ cond ucs2 0 (length (septets_of (listed_front t))) → a ≡ cond ucs2 z (encoded_leaves t z)
-    → (total : ℕ) → sized_as ucs2 t ≡ Pages total → Gathered ucs2 t total n a
+    → (total : ℕ) → sized_as ucs2 t ≡ Ok total → Gathered ucs2 t total n a
 unfolding encoded_leaves
 gathered true t n z a long en ea total e =
     record { fits = sized-fits true t total (sym e); within = omega arith; low = subst (λ (k : ℕ). Below 128 (take k a)) (sym en) (λ k. lit< tt); content = refl }
@@ -186,20 +179,20 @@ page-left s out few low long =
 
 -- ---- one page and all pages of a text by itself
 
-sized-refused : (ucs2 : Bool) (t : List ℕ) (q : Refusal) → Refused q ≡ sized_as ucs2 t → verdict (size_rules ucs2 t) ≡ refused q
+sized-refused : (ucs2 : Bool) (t : List ℕ) (q : Refusal) → Err q ≡ sized_as ucs2 t → verdict (size_rules ucs2 t) ≡ refused q
 unfolding sized_as
-sized-refused ucs2 t q e = settle-told counted_told Refused (Pages (pages_of ucs2 t)) (λ q. refl) refl (verdict (size_rules ucs2 t)) (Refused q) e
+sized-refused ucs2 t q e = settle-told verdict_of Err (Ok (pages_of ucs2 t)) (λ q. refl) refl (verdict (size_rules ucs2 t)) (Err q) e
 
 module _ (sequence identifier coding : ℕ) (ucs2 : Bool) (t : List ℕ) where
-  pub built-refused : (k : ℕ) (q : Refusal) → Refused q ≡ sized_as ucs2 t → refused_built q ≡ text_built sequence identifier coding ucs2 t k
+  pub built-refused : (k : ℕ) (q : Refusal) → Err q ≡ sized_as ucs2 t → refused_built q ≡ text_built sequence identifier coding ucs2 t k
   unfolding text_built
   built-refused k q e =
       let x : List Rule = when (lacks (pages_of ucs2 t) k) WrongPages ∷ [] in
       let v : verdict (size_rules ucs2 t ++ x) ≡ refused q = verdict-refused-first (size_rules ucs2 t) x q (sized-refused ucs2 t q e) in
       sym (simp v)
 
-  pub pages-refused : (out : List ℕ) (q : Refusal) → Refused q ≡ sized_as ucs2 t
-      → (written.Refused q ≡ text_pages sequence identifier coding ucs2 t (length out)) × (out ≡ text_pages_leaves sequence identifier coding ucs2 t out)
+  pub pages-refused : (out : List ℕ) (q : Refusal) → Err q ≡ sized_as ucs2 t
+      → (Err q ≡ text_pages sequence identifier coding ucs2 t (length out)) × (out ≡ text_pages_leaves sequence identifier coding ucs2 t out)
   unfolding text_pages text_pages_leaves
   pages-refused out q e =
       let x : List Rule = when (ltb (length out) (length (text_blocks sequence identifier coding ucs2 t))) NoRoom ∷ [] in
@@ -208,7 +201,7 @@ module _ (sequence identifier coding : ℕ) (ucs2 : Bool) (t : List ℕ) where
 
   -- page k of so many
   abbrev made : ℕ → ℕ → Built
-  made total k = record { answer = Pages total; block = page_block sequence identifier coding total ucs2 (content_of ucs2 t) k }
+  made total k = record { answer = Ok total; block = page_block sequence identifier coding total ucs2 (content_of ucs2 t) k }
 
   module _ (total : ℕ) (f : Fits ucs2 t total) where
     pub built-lacks : (k : ℕ) → lacks total k ≡ true → refused_built WrongPages ≡ text_built sequence identifier coding ucs2 t k
@@ -236,7 +229,7 @@ module _ (sequence identifier coding : ℕ) (ucs2 : Bool) (t : List ℕ) where
     long = ap length (sym blocks-by) ∙ blocks-length sequence identifier coding total ucs2 (content_of ucs2 t) 1 total
 
     pub pages-short : (out : List ℕ) → length out < 88 * total
-        → (written.Refused NoRoom ≡ text_pages sequence identifier coding ucs2 t (length out)) × (out ≡ text_pages_leaves sequence identifier coding ucs2 t out)
+        → (Err NoRoom ≡ text_pages sequence identifier coding ucs2 t (length out)) × (out ≡ text_pages_leaves sequence identifier coding ucs2 t out)
     unfolding text_pages text_pages_leaves verdict
     pages-short out h =
         let b : List ℕ = text_blocks sequence identifier coding ucs2 t in
@@ -246,7 +239,7 @@ module _ (sequence identifier coding : ℕ) (ucs2 : Bool) (t : List ℕ) where
         (sym (simp v), sym (simp v))
 
     pub pages-stored : (out : List ℕ) → 88 * total ≤ length out
-        → (written.Done (88 * total) total ≡ text_pages sequence identifier coding ucs2 t (length out))
+        → (ok_pages_written (88 * total) total ≡ text_pages sequence identifier coding ucs2 t (length out))
         × (laid (blocks_from sequence identifier coding total ucs2 (content_of ucs2 t) 1 total) out ≡ text_pages_leaves sequence identifier coding ucs2 t out)
     unfolding text_pages text_pages_leaves verdict
     pages-stored out h =
@@ -254,4 +247,4 @@ module _ (sequence identifier coding : ℕ) (ucs2 : Bool) (t : List ℕ) where
         let x : List Rule = when (ltb (length out) (length b)) NoRoom ∷ [] in
         let room : ltb (length out) (length b) ≡ false = le-ltb (length out) (length b) (omega (arith, long)) in
         let v : verdict (size_rules ucs2 t ++ x) ≡ accepted = verdict-accepted-first (size_rules ucs2 t) x f.allowed ∙ simp room in
-        (ap₂ written.Done (sym long) f.pages ∙ sym (simp v), ap (λ (l : List ℕ). laid l out) blocks-by ∙ sym (simp v))
+        (ap₂ ok_pages_written (sym long) f.pages ∙ sym (simp v), ap (λ (l : List ℕ). laid l out) blocks-by ∙ sym (simp v))

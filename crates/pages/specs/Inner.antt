@@ -8,9 +8,7 @@
 --   joined_as h r answer                      == the answer of joining text, with the header h and the reading r
 --   wrong_order                               == the order of pages that are wrong
 --   Places o places                           == the place of each page stands in the table at its number, one more than it is
-use Rattle.std.specs.Prelude.{ℕ, suc, ◌≤◌, ◌≡◌, Bool, false, List, [], ◌∷◌, ◌++◌, ltb, length, get_or, replicate}
-use Rattle.words.specs.declared.Filled.{Filled}
-use Rattle.words.specs.declared.Filled.TheVariants as filled
+use Rattle.std.specs.Prelude.{ℕ, suc, ◌≤◌, ◌≡◌, Bool, false, List, [], ◌∷◌, ◌++◌, ltb, length, get_or, replicate, Result, Ok, Err}
 use Rattle.words.specs.declared.Refusal.{Refusal}
 use Rattle.words.specs.declared.Refusal.TheVariants.{TooLong, NoRoom, WrongPages}
 use Rattle.words.specs.Judging.{when, verdict, settle}
@@ -20,34 +18,32 @@ use Rattle.words.specs.declared.Service.TheVariants.{Broadcast}
 use Rattle.coding.specs.declared.Reading.{Reading}
 use Rattle.coding.specs.Holding.{is_ucs2, text_rules}
 use Rattle.pages.specs.declared.Header.{Header}
-use Rattle.pages.specs.declared.Counted.{Counted}
-use Rattle.pages.specs.declared.Counted.TheVariants as counted
 use Rattle.pages.specs.declared.Built.{Built}
 use Rattle.pages.specs.declared.PagesWritten.{PagesWritten}
-use Rattle.pages.specs.declared.PagesWritten.TheVariants as written
 use Rattle.pages.specs.declared.Joined.{Joined}
 use Rattle.pages.specs.declared.Order.{Order}
-use Rattle.pages.specs.declared.Joined.TheVariants as joined
 use Rattle.pages.specs.Blocks.{block_size}
 use Rattle.pages.specs.Parts.{most_pages, content_of, pages_holding, pages_of}
 use Rattle.pages.specs.Written.{size_rules, page_block, blocks_from}
 use Rattle.pages.specs.Joined.{total_at, place_of, joined_text, page_rules}
+use Rattle.pages.specs.Successes.{ok_joined}
+use Rattle.pages.specs.Successes.{ok_pages_written}
 
-unfoldable pub sized_as : Bool → List ℕ → Counted
-sized_as ucs2 units = settle (verdict (size_rules ucs2 units)) counted.Refused (counted.Pages (pages_of ucs2 units))
+unfoldable pub sized_as : Bool → List ℕ → Result ℕ Refusal
+sized_as ucs2 units = settle (verdict (size_rules ucs2 units)) Err (Ok (pages_of ucs2 units))
 
-unfoldable pub paged_as : ℕ → ℕ → Counted
-paged_as room n = settle (verdict (when (ltb most_pages (pages_holding room n)) TooLong ∷ [])) counted.Refused (counted.Pages (pages_holding room n))
+unfoldable pub paged_as : ℕ → ℕ → Result ℕ Refusal
+paged_as room n = settle (verdict (when (ltb most_pages (pages_holding room n)) TooLong ∷ [])) Err (Ok (pages_holding room n))
 
 abbrev pub refused_built : Refusal → Built
-refused_built q = record { answer = counted.Refused q; block = replicate block_size 0 }
+refused_built q = record { answer = Err q; block = replicate block_size 0 }
 
 unfoldable pub text_built : ℕ → ℕ → ℕ → Bool → List ℕ → ℕ → Built
 text_built sequence identifier coding ucs2 units k =
     record {
       answer =
-          settle (verdict (size_rules ucs2 units ++ (when (lacks (pages_of ucs2 units) k) WrongPages ∷ []))) counted.Refused
-          (counted.Pages (pages_of ucs2 units));
+          settle (verdict (size_rules ucs2 units ++ (when (lacks (pages_of ucs2 units) k) WrongPages ∷ []))) Err
+          (Ok (pages_of ucs2 units));
       block =
           settle (verdict (size_rules ucs2 units ++ (when (lacks (pages_of ucs2 units) k) WrongPages ∷ []))) (λ q. replicate block_size 0)
           (page_block sequence identifier coding (pages_of ucs2 units) ucs2 (content_of ucs2 units) k);
@@ -57,35 +53,35 @@ abbrev pub text_blocks : ℕ → ℕ → ℕ → Bool → List ℕ → List ℕ
 text_blocks sequence identifier coding ucs2 units =
     blocks_from sequence identifier coding (pages_of ucs2 units) ucs2 (content_of ucs2 units) 1 (pages_of ucs2 units)
 
-unfoldable pub text_pages : ℕ → ℕ → ℕ → Bool → List ℕ → ℕ → PagesWritten
+unfoldable pub text_pages : ℕ → ℕ → ℕ → Bool → List ℕ → ℕ → Result PagesWritten Refusal
 text_pages sequence identifier coding ucs2 units room =
-    settle (verdict (size_rules ucs2 units ++ (when (ltb room (length (text_blocks sequence identifier coding ucs2 units))) NoRoom ∷ []))) written.Refused
-    (written.Done (length (text_blocks sequence identifier coding ucs2 units)) (pages_of ucs2 units))
+    settle (verdict (size_rules ucs2 units ++ (when (ltb room (length (text_blocks sequence identifier coding ucs2 units))) NoRoom ∷ []))) Err
+    (ok_pages_written (length (text_blocks sequence identifier coding ucs2 units)) (pages_of ucs2 units))
 
 unfoldable pub text_pages_leaves : ℕ → ℕ → ℕ → Bool → List ℕ → List ℕ → List ℕ
 text_pages_leaves sequence identifier coding ucs2 units out =
     settle (verdict (size_rules ucs2 units ++ (when (ltb (length out) (length (text_blocks sequence identifier coding ucs2 units))) NoRoom ∷ []))) (λ q. out)
     (laid (text_blocks sequence identifier coding ucs2 units) out)
 
-unfoldable pub text_joins : Bool → List ℕ → ℕ → Filled
-text_joins ucs2 o room = settle (verdict (page_rules ucs2 o room)) filled.Refused (filled.Done (length (joined_text ucs2 o)))
+unfoldable pub text_joins : Bool → List ℕ → ℕ → Result ℕ Refusal
+text_joins ucs2 o room = settle (verdict (page_rules ucs2 o room)) Err (Ok (length (joined_text ucs2 o)))
 
 unfoldable pub text_join_leaves : Bool → List ℕ → List ℕ → List ℕ
 text_join_leaves ucs2 o out = settle (verdict (page_rules ucs2 o (length out))) (λ q. out) (laid (joined_text ucs2 o) out)
 
-unfoldable pub held_joins : Header → Reading → List ℕ → ℕ → Joined
+unfoldable pub held_joins : Header → Reading → List ℕ → ℕ → Result Joined Refusal
 held_joins h r o room =
-    settle (verdict (text_rules Broadcast r ++ page_rules (is_ucs2 r.alphabet) o room)) joined.Refused
-    (joined.Done (length (joined_text (is_ucs2 r.alphabet) o)) r h.sequence h.identifier h.total)
+    settle (verdict (text_rules Broadcast r ++ page_rules (is_ucs2 r.alphabet) o room)) Err
+    (ok_joined (length (joined_text (is_ucs2 r.alphabet) o)) r h.sequence h.identifier h.total)
 
 unfoldable pub held_join_leaves : Reading → List ℕ → List ℕ → List ℕ
 held_join_leaves r o out =
     settle (verdict (text_rules Broadcast r ++ page_rules (is_ucs2 r.alphabet) o (length out))) (λ q. out)
     (laid (joined_text (is_ucs2 r.alphabet) o) out)
 
-abbrev pub joined_as : Header → Reading → Filled → Joined
-joined_as h r (filled.Done units) = joined.Done units r h.sequence h.identifier h.total
-joined_as h r (filled.Refused q) = joined.Refused q
+abbrev pub joined_as : Header → Reading → Result ℕ Refusal → Result Joined Refusal
+joined_as h r (Ok units) = ok_joined units r h.sequence h.identifier h.total
+joined_as h r (Err q) = Err q
 
 abbrev pub wrong_order : Order
 wrong_order = record { right = false; places = replicate 16 0 }

@@ -13,7 +13,7 @@
 --   joined_from ucs2 o k n                     == what n pages from page k on hold, in their order
 --   joined_content, joined_text                == what all pages hold, closing CRs dropped; the text of it
 --   join_rules, join_answers, join_leaves      == what join_pages refuses, answers and leaves in the lent buffer
-use Rattle.std.specs.Prelude.{ℕ, zero, suc, ◌*◌, ◌/◌, ◌%◌, Bool, true, not, cond, ◌&&◌, List, [], ◌∷◌, ◌++◌, ltb, eqb, length, take, drop, get_or}
+use Rattle.std.specs.Prelude.{ℕ, zero, suc, ◌*◌, ◌/◌, ◌%◌, Bool, true, not, cond, ◌&&◌, List, [], ◌∷◌, ◌++◌, ltb, eqb, length, take, drop, get_or, Result, Err}
 use Rattle.words.specs.declared.Service.TheVariants.{Broadcast}
 use Rattle.words.specs.declared.Refusal.TheVariants.{WrongLength, WrongPages, NoRoom}
 use Rattle.words.specs.Sizes.{most_septets}
@@ -30,8 +30,9 @@ use Rattle.stream.specs.Ucs2.{octet_units}
 use Rattle.stream.specs.UssdPacking.{cr}
 use Rattle.pages.specs.declared.Header.{Header}
 use Rattle.pages.specs.declared.Joined.{Joined}
-use Rattle.pages.specs.declared.Joined.TheVariants.{Done, Refused}
 use Rattle.pages.specs.Blocks.{block_size, header_of, text_in}
+use Rattle.words.specs.declared.Refusal.{Refusal}
+use Rattle.pages.specs.Successes.{ok_joined}
 
 abbrev pub block_count : List ℕ → ℕ
 block_count o = length o / block_size
@@ -96,10 +97,10 @@ join_rules o room =
     ∷ when (eqb (length o) 0) WrongPages
     ∷ (text_rules Broadcast (joined_reading o) ++ page_rules (is_ucs2 (joined_reading o).alphabet) o room)
 
-unfoldable pub join_answers : List ℕ → ℕ → Joined
+unfoldable pub join_answers : List ℕ → ℕ → Result Joined Refusal
 join_answers o room =
-    settle (verdict (join_rules o room)) Refused
-    (Done (length (joined_text (is_ucs2 (joined_reading o).alphabet) o)) (joined_reading o) (header_at o 0).sequence (header_at o 0).identifier (total_at o 0))
+    settle (verdict (join_rules o room)) Err
+    (ok_joined (length (joined_text (is_ucs2 (joined_reading o).alphabet) o)) (joined_reading o) (header_at o 0).sequence (header_at o 0).identifier (total_at o 0))
 
 unfoldable pub join_leaves : List ℕ → List ℕ → List ℕ
 join_leaves o out =

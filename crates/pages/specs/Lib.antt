@@ -1,3 +1,4 @@
+pub mod Successes
 pub mod Blocks
 pub mod Parts
 pub mod Written

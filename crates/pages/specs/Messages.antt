@@ -12,23 +12,22 @@
 --   Joins o r sequence identifier pages text                  == join_pages, lent any buffer with room for the text, accepts the blocks o, answers with the reading, the
 --                                                                header and the pages, and leaves the text at the front of the buffer
 --   ReadOnce o                                                == of the blocks o each is read once and none is left out: page k is read from block `place_of o k`, and block i is page `number_at o i`
-use Rattle.std.specs.Prelude.{◌≡◌, Bool, false, ◌||◌, List, [], ◌∷◌, ℕ, ◌*◌, ◌%◌, ◌<◌, ◌≤◌, eqb, length, take, replicate}
+use Rattle.std.specs.Prelude.{◌≡◌, Bool, false, ◌||◌, List, [], ◌∷◌, ℕ, ◌*◌, ◌%◌, ◌<◌, ◌≤◌, eqb, length, take, replicate, Ok}
 use Rattle.words.specs.declared.Service.TheVariants.{Broadcast}
 use Rattle.lists.specs.Lists.{laid}
 use Rattle.filling.specs.Numbered.{OneToOne}
 use Rattle.coding.specs.declared.Reading.{Reading}
-use Rattle.coding.specs.declared.OctetRead.TheVariants as octet-read
 use Rattle.coding.specs.OctetRead.{octet_reads}
 use Rattle.coding.specs.Holding.{is_ucs2}
 use Rattle.stream.specs.UssdPacking.{cr}
 use Rattle.demands.specs.MessageWritten.{not_codable}
 use Rattle.demands.specs.Demands.{HoldsText}
-use Rattle.pages.specs.declared.Joined.TheVariants.{Done}
 use Rattle.pages.specs.Blocks.{block_size}
 use Rattle.pages.specs.Parts.{most_pages}
 use Rattle.pages.specs.Written.{reading_pages, pages_answers, pages_leaves}
 use Rattle.pages.specs.Joined.{block_count, block_at, number_at, total_at, alike_at, wrong_pages, joined_reading, joined_text, join_answers, join_leaves}
 use Rattle.pages.specs.Reports.{pages_number, pages_written}
+use Rattle.pages.specs.Successes.{ok_joined}
 
 abbrev pub filled_to : ℕ → List ℕ → List ℕ
 filled_to n s = laid s (replicate n cr)
@@ -52,7 +51,7 @@ one_of n (m ∷ ns) = eqb n m || one_of n ns
 
 pub record PagesWritable (r : Reading) (t : List ℕ) : Type 0 where
   pub plain : r.reserved ≡ false
-  pub octet : (o : ℕ) × ((o < 256) × (octet_reads Broadcast o ≡ octet-read.Done r))
+  pub octet : (o : ℕ) × ((o < 256) × (octet_reads Broadcast o ≡ Ok r))
   pub holds : HoldsText r
   pub codable : not_codable (is_ucs2 r.alphabet) t ≡ false
   pub sized : reading_pages r t ≤ most_pages
@@ -94,7 +93,7 @@ pub record Reordered (m o : List ℕ) : Type 0 where
 abbrev pub Joins : List ℕ → Reading → ℕ → ℕ → ℕ → List ℕ → Type 0
 Joins o r sequence identifier pages text =
     (out : List ℕ) → length text ≤ length out
-    → (join_answers o (length out) ≡ Done (length text) r sequence identifier pages) × (join_leaves o out ≡ laid text out)
+    → (join_answers o (length out) ≡ ok_joined (length text) r sequence identifier pages) × (join_leaves o out ≡ laid text out)
 
 abbrev pub ReadOnce : List ℕ → Type 0
 ReadOnce o = OneToOne (number_at o) (total_at o) (alike_at o) (block_count o)

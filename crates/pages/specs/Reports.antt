@@ -4,69 +4,66 @@
 --   counted_number, counted_position, counted_pages                                                    == what count_pages reports, and build_page beside its block
 --   pages_number, pages_position, pages_written, pages_pages                                           == what write_pages reports
 --   join_number, join_position, join_written, join_reading, join_sequence, join_identifier, join_pages == what join_pages reports
-use Rattle.std.specs.Prelude.{ℕ}
+use Rattle.std.specs.Prelude.{ℕ, Result, Ok, Err}
 use Rattle.words.specs.Refusals.{number_of, position_of}
 use Rattle.coding.specs.declared.Reading.{Reading}
 use Rattle.coding.specs.Readings.{unmentioned}
-use Rattle.pages.specs.declared.Counted.{Counted}
-use Rattle.pages.specs.declared.Counted.TheVariants as counted
 use Rattle.pages.specs.declared.PagesWritten.{PagesWritten}
-use Rattle.pages.specs.declared.PagesWritten.TheVariants as written
 use Rattle.pages.specs.declared.Joined.{Joined}
-use Rattle.pages.specs.declared.Joined.TheVariants as joined
+use Rattle.words.specs.declared.Refusal.{Refusal}
 
-abbrev pub counted_number : Counted → ℕ
-counted_number (counted.Pages n) = 0
-counted_number (counted.Refused q) = number_of q
+abbrev pub counted_number : Result ℕ Refusal → ℕ
+counted_number (Ok n) = 0
+counted_number (Err q) = number_of q
 
-abbrev pub counted_position : Counted → ℕ
-counted_position (counted.Pages n) = 0
-counted_position (counted.Refused q) = position_of q
+abbrev pub counted_position : Result ℕ Refusal → ℕ
+counted_position (Ok n) = 0
+counted_position (Err q) = position_of q
 
-abbrev pub counted_pages : Counted → ℕ
-counted_pages (counted.Pages n) = n
-counted_pages (counted.Refused q) = 0
+abbrev pub counted_pages : Result ℕ Refusal → ℕ
+counted_pages (Ok n) = n
+counted_pages (Err q) = 0
 
-abbrev pub pages_number : PagesWritten → ℕ
-pages_number (written.Done octets pages) = 0
-pages_number (written.Refused q) = number_of q
+abbrev pub pages_number : Result PagesWritten Refusal → ℕ
+pages_number (Ok m) = 0
+pages_number (Err q) = number_of q
 
-abbrev pub pages_position : PagesWritten → ℕ
-pages_position (written.Done octets pages) = 0
-pages_position (written.Refused q) = position_of q
+abbrev pub pages_position : Result PagesWritten Refusal → ℕ
+pages_position (Ok m) = 0
+pages_position (Err q) = position_of q
 
-abbrev pub pages_written : PagesWritten → ℕ
-pages_written (written.Done octets pages) = octets
-pages_written (written.Refused q) = 0
+abbrev pub pages_written : Result PagesWritten Refusal → ℕ
+pages_written (Ok m) = m.octets
+pages_written (Err q) = 0
 
-abbrev pub pages_pages : PagesWritten → ℕ
-pages_pages (written.Done octets pages) = pages
-pages_pages (written.Refused q) = 0
+abbrev pub pages_pages : Result PagesWritten Refusal → ℕ
+pages_pages (Ok m) = m.pages
+pages_pages (Err q) = 0
 
-abbrev pub join_number : Joined → ℕ
-join_number (joined.Done units reading sequence identifier pages) = 0
-join_number (joined.Refused q) = number_of q
+abbrev pub join_number : Result Joined Refusal → ℕ
+join_number (Ok m) = 0
+join_number (Err q) = number_of q
 
-abbrev pub join_position : Joined → ℕ
-join_position (joined.Done units reading sequence identifier pages) = 0
-join_position (joined.Refused q) = position_of q
+abbrev pub join_position : Result Joined Refusal → ℕ
+join_position (Ok m) = 0
+join_position (Err q) = position_of q
 
-abbrev pub join_written : Joined → ℕ
-join_written (joined.Done units reading sequence identifier pages) = units
-join_written (joined.Refused q) = 0
+abbrev pub join_written : Result Joined Refusal → ℕ
+join_written (Ok m) = m.units
+join_written (Err q) = 0
 
-abbrev pub join_reading : Joined → Reading
-join_reading (joined.Done units reading sequence identifier pages) = reading
-join_reading (joined.Refused q) = unmentioned
+abbrev pub join_reading : Result Joined Refusal → Reading
+join_reading (Ok m) = m.reading
+join_reading (Err q) = unmentioned
 
-abbrev pub join_sequence : Joined → ℕ
-join_sequence (joined.Done units reading sequence identifier pages) = sequence
-join_sequence (joined.Refused q) = 0
+abbrev pub join_sequence : Result Joined Refusal → ℕ
+join_sequence (Ok m) = m.sequence
+join_sequence (Err q) = 0
 
-abbrev pub join_identifier : Joined → ℕ
-join_identifier (joined.Done units reading sequence identifier pages) = identifier
-join_identifier (joined.Refused q) = 0
+abbrev pub join_identifier : Result Joined Refusal → ℕ
+join_identifier (Ok m) = m.identifier
+join_identifier (Err q) = 0
 
-abbrev pub join_pages : Joined → ℕ
-join_pages (joined.Done units reading sequence identifier pages) = pages
-join_pages (joined.Refused q) = 0
+abbrev pub join_pages : Result Joined Refusal → ℕ
+join_pages (Ok m) = m.pages
+join_pages (Err q) = 0

@@ -7,7 +7,7 @@
 --   count_rules, count_answers               == what refuses to count the pages of a text, and what count_pages answers
 --   build_rules, built_as                    == the same of build_page
 --   pages_rules, pages_answers, pages_leaves == the same of write_pages, and what it leaves in the lent buffer
-use Rattle.std.specs.Prelude.{ℕ, zero, suc, Bool, List, [], ◌∷◌, ◌++◌, ltb, length, replicate}
+use Rattle.std.specs.Prelude.{ℕ, zero, suc, Bool, List, [], ◌∷◌, ◌++◌, ltb, length, replicate, Result, Ok, Err}
 use Rattle.words.specs.declared.Service.TheVariants.{Broadcast}
 use Rattle.words.specs.declared.Refusal.TheVariants.{Unlisted, TooLong, NoRoom, WrongPages}
 use Rattle.words.specs.Judging.{Rule, when, verdict, settle}
@@ -20,13 +20,12 @@ use Rattle.coding.specs.LanguageLetters.{coding_rules}
 use Rattle.coding.specs.Holding.{is_ucs2, text_rules}
 use Rattle.letters.specs.Writing.{first_unlisted}
 use Rattle.demands.specs.MessageWritten.{not_codable}
-use Rattle.pages.specs.declared.Counted.{Counted}
-use Rattle.pages.specs.declared.Counted.TheVariants as counted
 use Rattle.pages.specs.declared.Built.{Built}
 use Rattle.pages.specs.declared.PagesWritten.{PagesWritten}
-use Rattle.pages.specs.declared.PagesWritten.TheVariants as written
 use Rattle.pages.specs.Blocks.{block_size, block_of}
 use Rattle.pages.specs.Parts.{most_pages, page_room, content_of, pages_of, page_text}
+use Rattle.words.specs.declared.Refusal.{Refusal}
+use Rattle.pages.specs.Successes.{ok_pages_written}
 
 abbrev pub page_block : ℕ → ℕ → ℕ → ℕ → Bool → List ℕ → ℕ → List ℕ
 page_block sequence identifier coding total ucs2 content k =
@@ -62,8 +61,8 @@ size_rules ucs2 units =
 unfoldable pub count_rules : Reading → List ℕ → List Rule
 count_rules r units = coding_rules Broadcast r ++ (text_rules Broadcast r ++ size_rules (is_ucs2 r.alphabet) units)
 
-unfoldable pub count_answers : Reading → List ℕ → Counted
-count_answers r units = settle (verdict (count_rules r units)) counted.Refused (counted.Pages (reading_pages r units))
+unfoldable pub count_answers : Reading → List ℕ → Result ℕ Refusal
+count_answers r units = settle (verdict (count_rules r units)) Err (Ok (reading_pages r units))
 
 unfoldable pub build_rules : Reading → List ℕ → ℕ → List Rule
 build_rules r units k = count_rules r units ++ (when (lacks (reading_pages r units) k) WrongPages ∷ [])
@@ -71,7 +70,7 @@ build_rules r units k = count_rules r units ++ (when (lacks (reading_pages r uni
 unfoldable pub built_as : ℕ → ℕ → Reading → List ℕ → ℕ → Built
 built_as sequence identifier r units k =
     record {
-      answer = settle (verdict (build_rules r units k)) counted.Refused (counted.Pages (reading_pages r units));
+      answer = settle (verdict (build_rules r units k)) Err (Ok (reading_pages r units));
       block = settle (verdict (build_rules r units k)) (λ q. replicate block_size 0) (block_as sequence identifier r units k);
     }
 
@@ -79,10 +78,10 @@ unfoldable pub pages_rules : ℕ → ℕ → Reading → List ℕ → ℕ → Li
 pages_rules sequence identifier r units room =
     count_rules r units ++ (when (ltb room (length (blocks_as sequence identifier r units))) NoRoom ∷ [])
 
-unfoldable pub pages_answers : ℕ → ℕ → Reading → List ℕ → ℕ → PagesWritten
+unfoldable pub pages_answers : ℕ → ℕ → Reading → List ℕ → ℕ → Result PagesWritten Refusal
 pages_answers sequence identifier r units room =
-    settle (verdict (pages_rules sequence identifier r units room)) written.Refused
-    (written.Done (length (blocks_as sequence identifier r units)) (reading_pages r units))
+    settle (verdict (pages_rules sequence identifier r units room)) Err
+    (ok_pages_written (length (blocks_as sequence identifier r units)) (reading_pages r units))
 
 unfoldable pub pages_leaves : ℕ → ℕ → Reading → List ℕ → List ℕ → List ℕ
 pages_leaves sequence identifier r units out =

@@ -16,20 +16,19 @@ use Rattle.lists.specs.Lists.{laid}
 use Rattle.filling.specs.Numbered.{lacks}
 use Rattle.coding.specs.declared.Reading.{Reading}
 use Rattle.coding.specs.Holding.{is_ucs2}
-use Rattle.pages.specs.declared.Counted.TheVariants as counted
 use Rattle.pages.specs.declared.Built.{Built}
-use Rattle.pages.specs.declared.PagesWritten.TheVariants as written
 use Rattle.pages.specs.Blocks.{block_size}
 use Rattle.pages.specs.Written.{block_as, blocks_as, reading_pages, size_rules, count_rules, count_answers, build_rules, built_as, pages_rules, pages_answers, pages_leaves}
 use Rattle.pages.specs.Inner.{sized_as, refused_built, text_built, text_pages, text_pages_leaves}
-use Rattle.writer.specs.declared.Settled.TheVariants as settled
 use Rattle.writer.specs.declared.TextCoding.{TextCoding}
 use Rattle.writer.specs.Settled.{settled_as}
 use Rattle.writer.proofs.Chosen.{front, front-behind, chosen}
+use Rattle.std.specs.Prelude.{Ok, Err}
+use Rattle.pages.specs.Successes.{ok_pages_written}
 
 -- what is built at a verdict
 abbrev made_of : Verdict → ℕ → List ℕ → Built
-made_of v pages block = record { answer = settle v counted.Refused (counted.Pages pages); block = settle v (λ q. replicate block_size 0) block }
+made_of v pages block = record { answer = settle v Err (Ok pages); block = settle v (λ q. replicate block_size 0) block }
 
 -- rules behind the count's
 behind : (r : Reading) (units : List ℕ) (x : List Rule) → verdict (count_rules r units ++ x) ≡ front Broadcast r (size_rules (is_ucs2 r.alphabet) units ++ x)
@@ -37,18 +36,18 @@ unfolding count_rules
 behind r units x = front-behind Broadcast r (size_rules (is_ucs2 r.alphabet) units) x
 
 module _ (r : Reading) (units : List ℕ) where
-  module _ (c : TextCoding) (e : settled.Text c ≡ settled_as Broadcast r) where
+  module _ (c : TextCoding) (e : Ok c ≡ settled_as Broadcast r) where
     pub counts-text : sized_as c.ucs2 units ≡ count_answers r units
     unfolding count_answers count_rules sized_as
     counts-text =
-        let ch = chosen Broadcast r (settled.Text c) e in
-        sym (ap (λ (v : Verdict). settle v counted.Refused (counted.Pages (reading_pages r units))) (ch.0 (size_rules (is_ucs2 r.alphabet) units))
+        let ch = chosen Broadcast r (Ok c) e in
+        sym (ap (λ (v : Verdict). settle v Err (Ok (reading_pages r units))) (ch.0 (size_rules (is_ucs2 r.alphabet) units))
         ∙ ap (λ (b : Bool). sized_as b units) ch.2)
 
     pub builds-text : (sequence identifier k : ℕ) → text_built sequence identifier c.octet c.ucs2 units k ≡ built_as sequence identifier r units k
     unfolding built_as build_rules block_as text_built
     builds-text sequence identifier k =
-        let ch = chosen Broadcast r (settled.Text c) e in
+        let ch = chosen Broadcast r (Ok c) e in
         let x : List Rule = when (lacks (reading_pages r units) k) WrongPages ∷ [] in
         let v : verdict (count_rules r units ++ x) ≡ verdict (size_rules (is_ucs2 r.alphabet) units ++ x) = behind r units x ∙ ch.0 (size_rules (is_ucs2 r.alphabet) units ++ x) in
         sym (ap (λ (v : Verdict). made_of v (reading_pages r units) (block_as sequence identifier r units k)) v ∙ ap₂ (λ (o : ℕ) (b : Bool). text_built sequence identifier o b units k) ch.1 ch.2)
@@ -58,30 +57,30 @@ module _ (r : Reading) (units : List ℕ) where
         × (text_pages_leaves sequence identifier c.octet c.ucs2 units out ≡ pages_leaves sequence identifier r units out)
     unfolding pages_answers pages_leaves pages_rules blocks_as text_pages text_pages_leaves
     writes-text sequence identifier out =
-        let ch = chosen Broadcast r (settled.Text c) e in
+        let ch = chosen Broadcast r (Ok c) e in
         let b : List ℕ = blocks_as sequence identifier r units in
         let x : List Rule = when (ltb (length out) (length b)) NoRoom ∷ [] in
         let v : verdict (count_rules r units ++ x) ≡ verdict (size_rules (is_ucs2 r.alphabet) units ++ x) = behind r units x ∙ ch.0 (size_rules (is_ucs2 r.alphabet) units ++ x) in (
-          sym (ap (λ (v : Verdict). settle v written.Refused (written.Done (length b) (reading_pages r units))) v ∙ ap₂ (λ (o : ℕ) (u : Bool). text_pages sequence identifier o u units (length out)) ch.1 ch.2),
+          sym (ap (λ (v : Verdict). settle v Err (ok_pages_written (length b) (reading_pages r units))) v ∙ ap₂ (λ (o : ℕ) (u : Bool). text_pages sequence identifier o u units (length out)) ch.1 ch.2),
           sym (ap (λ (v : Verdict). settle v (λ q. out) (laid b out)) v ∙ ap₂ (λ (o : ℕ) (u : Bool). text_pages_leaves sequence identifier o u units out) ch.1 ch.2),
         )
 
-  module _ (q : Refusal) (e : settled.Refused q ≡ settled_as Broadcast r) where
-    pub counts-refused : counted.Refused q ≡ count_answers r units
+  module _ (q : Refusal) (e : Err q ≡ settled_as Broadcast r) where
+    pub counts-refused : Err q ≡ count_answers r units
     unfolding count_answers count_rules
-    counts-refused = sym (ap (λ (v : Verdict). settle v counted.Refused (counted.Pages (reading_pages r units))) (chosen Broadcast r (settled.Refused q) e (size_rules (is_ucs2 r.alphabet) units)))
+    counts-refused = sym (ap (λ (v : Verdict). settle v Err (Ok (reading_pages r units))) (chosen Broadcast r (Err q) e (size_rules (is_ucs2 r.alphabet) units)))
 
     pub builds-refused : (sequence identifier k : ℕ) → refused_built q ≡ built_as sequence identifier r units k
     unfolding built_as build_rules
     builds-refused sequence identifier k =
         let x : List Rule = when (lacks (reading_pages r units) k) WrongPages ∷ [] in
-        let v : verdict (count_rules r units ++ x) ≡ refused q = behind r units x ∙ chosen Broadcast r (settled.Refused q) e (size_rules (is_ucs2 r.alphabet) units ++ x) in
+        let v : verdict (count_rules r units ++ x) ≡ refused q = behind r units x ∙ chosen Broadcast r (Err q) e (size_rules (is_ucs2 r.alphabet) units ++ x) in
         sym (simp v)
 
     pub writes-refused : (sequence identifier : ℕ) (out : List ℕ)
-        → (written.Refused q ≡ pages_answers sequence identifier r units (length out)) × (out ≡ pages_leaves sequence identifier r units out)
+        → (Err q ≡ pages_answers sequence identifier r units (length out)) × (out ≡ pages_leaves sequence identifier r units out)
     unfolding pages_answers pages_leaves pages_rules
     writes-refused sequence identifier out =
         let x : List Rule = when (ltb (length out) (length (blocks_as sequence identifier r units))) NoRoom ∷ [] in
-        let v : verdict (count_rules r units ++ x) ≡ refused q = behind r units x ∙ chosen Broadcast r (settled.Refused q) e (size_rules (is_ucs2 r.alphabet) units ++ x) in
+        let v : verdict (count_rules r units ++ x) ≡ refused q = behind r units x ∙ chosen Broadcast r (Err q) e (size_rules (is_ucs2 r.alphabet) units ++ x) in
         (sym (simp v), sym (simp v))

@@ -4,7 +4,6 @@
 ghost use Rattle.std.specs.Prelude.{◌≡◌, true, false, cond, ◌++◌, ℕ, ◌+◌, ◌*◌, ◌≤◌, ◌<◌, length, take, drop};
 ghost use Rattle.lists.specs.Lists.{laid};
 ghost use Rattle.lists.proofs.Below.{Below};
-ghost use Rattle.pages.specs.declared.Counted.TheVariants.{Pages};
 ghost use Rattle.filling.specs.Filling.{part_at};
 ghost use Rattle.pages.specs.Parts.{page_text};
 ghost use Rattle.pages.specs.Written.{page_block, blocks_from, count_answers, built_as, pages_answers, pages_leaves};
@@ -12,25 +11,24 @@ ghost use Rattle.pages.proofs.Steps.{Gathered};
 ghost use Rattle.pages.specs.Inner.{sized_as, paged_as, refused_built, text_built, text_pages, text_pages_leaves};
 
 use coding::Reading;
-use letters::Measured;
-use pages::{Built, Counted, Header, PagesWritten};
+use pages::{Built, Header, PagesWritten};
 use words::{Refusal, Service};
-use writer::{Settled, TextCoding};
+use writer::TextCoding;
 
 // How many pages a text takes under a reading.
 // Refuses a reading that cannot be written on a broadcast page (8), compressed text (1), a coding that holds no text (2), a prefix or
 // header mark (3), a unit that is not in the alphabet (6, the first), more than 15 pages (5).
-pub fn count_pages(reading: Reading, units: &[u16]) -> Counted
+pub fn count_pages(reading: Reading, units: &[u16]) -> Result<usize, Refusal>
     ensures answer { result ≡ count_answers reading units.now }
 {
     match writer::settle(Service::Broadcast, reading) {
-        Settled::Text(coding) => text_pages(coding.ucs2(), units),
-        Settled::Refused(refusal) => Counted::Refused(refusal),
+        Ok(coding) => text_pages(coding.ucs2(), units),
+        Err(refusal) => Err(refusal),
     }
 }
 
 // The same of a text by itself: 6, 5.
-fn text_pages(ucs2: bool, units: &[u16]) -> Counted
+fn text_pages(ucs2: bool, units: &[u16]) -> Result<usize, Refusal>
     ensures { result ≡ sized_as ucs2 units.now }
 {
     if ucs2 {
@@ -39,23 +37,23 @@ fn text_pages(ucs2: bool, units: &[u16]) -> Counted
     let seen = to_septets::survey(units);
     let measured = seen.measured;
     match measured {
-        Measured::Septets(n) => paged(93, n),
-        Measured::Stopped(unit) => Counted::Refused(Refusal::Unlisted { unit: unit }),
+        Ok(n) => paged(93, n),
+        Err(unit) => Err(Refusal::Unlisted { unit: unit }),
     }
 }
 
 // How many pages with this room n septets or units take: 5.
-fn paged(room: usize, n: usize) -> Counted
+fn paged(room: usize, n: usize) -> Result<usize, Refusal>
     requires { (0 < room) × (room ≤ 93) }
     ensures { result ≡ paged_as room n }
 {
     if 15 * room < n {
-        return Counted::Refused(Refusal::TooLong);
+        return Err(Refusal::TooLong);
     }
     if n == 0 {
-        return Counted::Pages(1);
+        return Ok(1);
     }
-    Counted::Pages((n + room - 1) / room)
+    Ok((n + room - 1) / room)
 }
 
 // Builds page `number`, from 1, of a text under a reading: the block, and how many pages the message has.
@@ -70,8 +68,8 @@ pub fn build_page(
     ensures answer { result ≡ built_as sequence identifier reading units.now number }
 {
     match writer::settle(Service::Broadcast, reading) {
-        Settled::Text(coding) => build_text(sequence, identifier, coding, units, number),
-        Settled::Refused(refusal) => no_page(refusal),
+        Ok(coding) => build_text(sequence, identifier, coding, units, number),
+        Err(refusal) => no_page(refusal),
     }
 }
 
@@ -80,7 +78,7 @@ fn no_page(refusal: Refusal) -> Built
     ensures { result ≡ refused_built refusal }
 {
     Built {
-        answer: Counted::Refused(refusal),
+        answer: Err(refusal),
         block: [0u8; 88],
     }
 }
@@ -101,7 +99,7 @@ fn build_text(
     let n = sized.septets;
     let answer = sized.answer;
     match answer {
-        Counted::Pages(total) => {
+        Ok(total) => {
             if number == 0 || total < number {
                 return no_page(Refusal::WrongPages);
             }
@@ -113,11 +111,11 @@ fn build_text(
                 number: 0,
             };
             Built {
-                answer: Counted::Pages(total),
+                answer: Ok(total),
                 block: nth_block(head, ucs2, &septets[..n], units, number - 1),
             }
         }
-        Counted::Refused(refusal) => no_page(refusal),
+        Err(refusal) => no_page(refusal),
     }
 }
 
@@ -130,13 +128,13 @@ pub fn write_pages(
     reading: Reading,
     units: &[u16],
     out: &mut [u8],
-) -> PagesWritten
+) -> Result<PagesWritten, Refusal>
     ensures answer { result ≡ pages_answers sequence identifier reading units.now (length out.old) }
     ensures buffer { out.new ≡ pages_leaves sequence identifier reading units.now out.old }
 {
     match writer::settle(Service::Broadcast, reading) {
-        Settled::Text(coding) => write_text(sequence, identifier, coding, units, out),
-        Settled::Refused(refusal) => PagesWritten::Refused(refusal),
+        Ok(coding) => write_text(sequence, identifier, coding, units, out),
+        Err(refusal) => Err(refusal),
     }
 }
 
@@ -147,7 +145,7 @@ fn write_text(
     coding: TextCoding,
     units: &[u16],
     out: &mut [u8],
-) -> PagesWritten
+) -> Result<PagesWritten, Refusal>
     ensures answer { result ≡ text_pages sequence identifier coding.octet coding.ucs2 units.now (length out.old) }
     ensures buffer { out.new ≡ text_pages_leaves sequence identifier coding.octet coding.ucs2 units.now out.old }
 {
@@ -157,9 +155,9 @@ fn write_text(
     let n = sized.septets;
     let answer = sized.answer;
     match answer {
-        Counted::Pages(total) => {
+        Ok(total) => {
             if out.len() < 88 * total {
-                return PagesWritten::Refused(Refusal::NoRoom);
+                return Err(Refusal::NoRoom);
             }
             let head = Header {
                 sequence: sequence,
@@ -169,19 +167,19 @@ fn write_text(
                 number: 0,
             };
             put_pages(head, ucs2, &septets[..n], units, total, out);
-            PagesWritten::Done {
+            Ok(PagesWritten {
                 octets: 88 * total,
                 pages: total,
-            }
+            })
         }
-        Counted::Refused(refusal) => PagesWritten::Refused(refusal),
+        Err(refusal) => Err(refusal),
     }
 }
 
 // How many pages a text takes, and how many septets of it were stored: none of UCS2, and of a 7-bit text all before the first unlisted unit.
 #[derive(Clone, Copy)]
 struct Sized {
-    answer: Counted,
+    answer: Result<usize, Refusal>,
     septets: usize,
 }
 
@@ -189,7 +187,7 @@ struct Sized {
 fn gather_pages(ucs2: bool, units: &[u16], out: &mut [u8]) -> Sized
     requires { length out.old ≡ 1395 }
     ensures answer_value { result.answer ≡ sized_as ucs2 units.now }
-    ensures by_index { (total : ℕ) → result.answer ≡ Pages total → Gathered ucs2 units.now total result.septets out.new }
+    ensures by_index { (total : ℕ) → result.answer ≡ Ok total → Gathered ucs2 units.now total result.septets out.new }
 {
     if ucs2 {
         return Sized {
@@ -200,7 +198,7 @@ fn gather_pages(ucs2: bool, units: &[u16], out: &mut [u8]) -> Sized
     let told = to_septets::encode(units, out);
     if told.units < units.len() {
         return Sized {
-            answer: Counted::Refused(Refusal::Unlisted { unit: told.units }),
+            answer: Err(Refusal::Unlisted { unit: told.units }),
             septets: told.septets,
         };
     }
@@ -257,7 +255,7 @@ fn septet_text(septets: &[u8], k: usize) -> [u8; 82]
     let from = 93 * k;
     let page = closing::page_of(&septets[from..]);
     let mut text = [0u8; 82];
-    packing::pack_page(page, &mut text);
+    let _ = packing::pack_page(page, &mut text);
     text
 }
 

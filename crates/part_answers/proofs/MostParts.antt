@@ -26,14 +26,8 @@ use Rattle.coding.specs.LanguageLetters.{coding_rules}
 use Rattle.letters.specs.Writing.{first_unlisted}
 use Rattle.letters.specs.Sized.{not_codable}
 use Rattle.stream.proofs.UnitOctets.{unit-octets-length}
-use Rattle.headed.specs.declared.Concatenation.{Concatenation}
-use Rattle.headed.specs.declared.Concatenation.TheVariants.{Absent, Present}
 use Rattle.headed.specs.Header.{Element, Elements, broken, whole, elements_octets, elements_of, concatenation, numbers_of, last_numbers, header_body, header_numbers, numbers_in, septets_over}
 use Rattle.headed.proofs.Theorems.{elements-joined}
-use Rattle.parted.specs.declared.Counted.TheVariants as counted
-use Rattle.parted.specs.declared.PartWritten.TheVariants as wrote
-use Rattle.parted.specs.declared.PartsWritten.TheVariants as all
-use Rattle.parted.specs.declared.PartsJoined.TheVariants as joined
 use Rattle.parted.specs.declared.Plan.{Plan}
 use Rattle.parted.specs.Parts.{most_parts, mark_size, room_behind, part_header, part_content, headed_count, part_count}
 use Rattle.parted.specs.Written.{size_rules, count_rules, reading_parts, count_answers, part_rules, part_answers, all_rules, all_answers}
@@ -41,30 +35,35 @@ use Rattle.parted.specs.Joined.{octets_asked, start_at, part_in, numbers_at, tot
 use Rattle.parted.specs.Reports.{counted_parts, part_travels, part_parts, parts_parts, join_parts}
 use Rattle.parted.proofs.Parts.{header-long}
 use Rattle.parted.proofs.Plans.{room-septets, room-units}
+use Rattle.std.specs.Prelude.{Option, Ok, Err, Some, None}
+use Rattle.headed.specs.declared.Numbers.{Numbers}
+use Rattle.parted.specs.Successes.{ok_parts_written}
+use Rattle.parted.specs.Successes.{ok_part_written}
+use Rattle.parted.specs.Successes.{ok_parts_joined}
 
 -- ---- an answer that is given only where the verdict is accepted
 
-counted-settled : (v : Verdict) (n : ℕ) → (v ≡ accepted → n ≤ 255) → counted_parts (settle v counted.Refused (counted.Parts n)) ≤ 255
+counted-settled : (v : Verdict) (n : ℕ) → (v ≡ accepted → n ≤ 255) → counted_parts (settle v Err (Ok n)) ≤ 255
 counted-settled (refused q) n h = omega arith
 counted-settled accepted n h = h refl
 
 written-settled : (v : Verdict) (octets count : ℕ) (marked : Bool) (coding n : ℕ) → (v ≡ accepted → n ≤ 255)
-    → part_parts (settle v wrote.Refused (wrote.Done octets count marked coding n)) ≤ 255
+    → part_parts (settle v Err (ok_part_written octets count marked coding n)) ≤ 255
 written-settled (refused q) octets count marked coding n h = omega arith
 written-settled accepted octets count marked coding n h = h refl
 
 count-settled : (v : Verdict) (octets count : ℕ) (marked : Bool) (coding n : ℕ) → count ≤ 160
-    → part_travels (settle v wrote.Refused (wrote.Done octets count marked coding n)) ≤ 160
+    → part_travels (settle v Err (ok_part_written octets count marked coding n)) ≤ 160
 count-settled (refused q) octets count marked coding n h = omega arith
 count-settled accepted octets count marked coding n h = h
 
 parts-settled : (v : Verdict) (octets : ℕ) (marked : Bool) (coding n : ℕ) → (v ≡ accepted → n ≤ 255)
-    → parts_parts (settle v all.Refused (all.Done octets marked coding n)) ≤ 255
+    → parts_parts (settle v Err (ok_parts_written octets marked coding n)) ≤ 255
 parts-settled (refused q) octets marked coding n h = omega arith
 parts-settled accepted octets marked coding n h = h refl
 
 joined-settled : (v : Verdict) (units : ℕ) (r : Reading) (reference n : ℕ) → (v ≡ accepted → n ≤ 255)
-    → join_parts (settle v joined.Refused (joined.Done units r reference n)) ≤ 255
+    → join_parts (settle v Err (ok_parts_joined units r reference n)) ≤ 255
 joined-settled (refused q) units r reference n h = omega arith
 joined-settled accepted units r reference n h = h refl
 
@@ -126,14 +125,14 @@ below_parts (x ∷ s) t h =
     let rest = below_parts s t (λ k. h (suc k)) in
     (below-first x s (h 0) rest.0, rest.1)
 
-total-last : (c : Concatenation) (es : List Element) → total_in c ≤ 255 → Below 256 (elements_octets es) → total_in (last_numbers c es) ≤ 255
+total-last : (c : Option Numbers) (es : List Element) → total_in c ≤ 255 → Below 256 (elements_octets es) → total_in (last_numbers c es) ≤ 255
 unfolding last_numbers elements_octets
 total-last c [] h b = h
 total-last c (e ∷ es) h b =
     let parts = below_parts e.octets (elements_octets es) (λ k. b (suc (suc k))) in
-    total-last (cond (eqb e.identifier concatenation) (Present (numbers_of e)) c) es (go (eqb e.identifier concatenation) parts.0) parts.1
+    total-last (cond (eqb e.identifier concatenation) (Some (numbers_of e)) c) es (go (eqb e.identifier concatenation) parts.0) parts.1
   where
-    go : (t : Bool) → Below 256 e.octets → total_in (cond t (Present (numbers_of e)) c) ≤ 255
+    go : (t : Bool) → Below 256 e.octets → total_in (cond t (Some (numbers_of e)) c) ≤ 255
     go true s = omega (arith, s 1)
     go false s = h
 
@@ -146,12 +145,12 @@ total-most o b = go (elements_of (header_body o)) refl
 
     go : (x : Elements) → elements_of (header_body o) ≡ x → total_in (numbers_in x) ≤ 255
     go broken e = omega arith
-    go (whole es) e = total-last Absent es (omega arith) (subst (Below 256) (sym (elements-joined (header_body o) es e)) body)
+    go (whole es) e = total-last None es (omega arith) (subst (Below 256) (sym (elements-joined (header_body o) es e)) body)
 
-one-total : (c d : Concatenation) → of_one_message c d ≡ true → total_in c ≡ total_in d
-one-total (Present m) (Present n) e = eqb-true m.total n.total (and_right (eqb m.reference n.reference) (eqb m.total n.total) e)
-one-total (Present m) Absent e = let z : ◌≡◌ {A = ℕ} 0 1 = cc in absurd (omega arith)
-one-total Absent d e = let z : ◌≡◌ {A = ℕ} 0 1 = cc in absurd (omega arith)
+one-total : (c d : Option Numbers) → of_one_message c d ≡ true → total_in c ≡ total_in d
+one-total (Some m) (Some n) e = eqb-true m.total n.total (and_right (eqb m.reference n.reference) (eqb m.total n.total) e)
+one-total (Some m) None e = let z : ◌≡◌ {A = ℕ} 0 1 = cc in absurd (omega arith)
+one-total None d e = let z : ◌≡◌ {A = ℕ} 0 1 = cc in absurd (omega arith)
 
 part-below : (ucs2 : Bool) (cs o : List ℕ) → Below 256 o → (i : ℕ) → Below 256 (part_in ucs2 cs o i)
 unfolding part_in

@@ -8,16 +8,13 @@
 --   parts_done_answer, part_done_answer, parts_join_done_answer                                      == the same of a success by itself
 --   parts_refused_answer, part_refused_answer, parts_join_refused_answer                             == the same of a refusal by itself
 --   numbered_no c                                                                                    == 1 where there are the numbers of a part, else 0
-use Rattle.std.specs.Prelude.{ℕ, Bool}
+use Rattle.std.specs.Prelude.{ℕ, Bool, Result, Option, Some, None}
 use Rattle.words.specs.declared.Refusal.{Refusal}
 use Rattle.words.specs.Refusals.{number_of, position_of}
 use Rattle.fields.specs.Numbers.{flag_no}
 use Rattle.coding.specs.declared.Reading.{Reading}
 use Rattle.coding.specs.Readings.{unmentioned}
 use Rattle.names.specs.Names.{numbers_of}
-use Rattle.headed.specs.declared.Concatenation.{Concatenation}
-use Rattle.headed.specs.declared.Concatenation.TheVariants.{Absent, Present}
-use Rattle.parted.specs.declared.Counted.{Counted}
 use Rattle.parted.specs.declared.PartWritten.{PartWritten}
 use Rattle.parted.specs.declared.PartsWritten.{PartsWritten}
 use Rattle.parted.specs.declared.PartRead.{PartRead}
@@ -27,10 +24,11 @@ use Rattle.parted.specs.Reports.{counted_number, counted_position, counted_parts
 use Rattle.part_answers.specs.declared.PartsAnswer.{PartsAnswer}
 use Rattle.part_answers.specs.declared.PartAnswer.{PartAnswer}
 use Rattle.part_answers.specs.declared.PartsJoinAnswer.{PartsJoinAnswer}
+use Rattle.headed.specs.declared.Numbers.{Numbers}
 
-abbrev pub numbered_no : Concatenation → ℕ
-numbered_no Absent = 0
-numbered_no (Present n) = 1
+abbrev pub numbered_no : Option Numbers → ℕ
+numbered_no None = 0
+numbered_no (Some n) = 1
 
 abbrev pub parts_done_answer : ℕ → ℕ → ℕ → ℕ → Bool → PartsAnswer
 parts_done_answer parts written count coding marked =
@@ -56,7 +54,7 @@ parts_refused_answer q =
       mark = 0;
     }
 
-abbrev pub counted_answer : Counted → PartsAnswer
+abbrev pub counted_answer : Result ℕ Refusal → PartsAnswer
 counted_answer a =
     record {
       refusal = counted_number a;
@@ -68,7 +66,7 @@ counted_answer a =
       mark = 0;
     }
 
-abbrev pub part_written_answer : PartWritten → PartsAnswer
+abbrev pub part_written_answer : Result PartWritten Refusal → PartsAnswer
 part_written_answer a =
     record {
       refusal = part_number a;
@@ -80,7 +78,7 @@ part_written_answer a =
       mark = flag_no (part_marked a);
     }
 
-abbrev pub parts_written_answer : PartsWritten → PartsAnswer
+abbrev pub parts_written_answer : Result PartsWritten Refusal → PartsAnswer
 parts_written_answer a =
     record {
       refusal = parts_number a;
@@ -92,7 +90,7 @@ parts_written_answer a =
       mark = flag_no (parts_marked a);
     }
 
-abbrev pub part_done_answer : ℕ → Reading → Concatenation → PartAnswer
+abbrev pub part_done_answer : ℕ → Reading → Option Numbers → PartAnswer
 part_done_answer written r c =
     record {
       refusal = 0;
@@ -118,7 +116,7 @@ part_refused_answer q =
       reading = numbers_of unmentioned;
     }
 
-abbrev pub part_read_answer : PartRead → PartAnswer
+abbrev pub part_read_answer : Result PartRead Refusal → PartAnswer
 part_read_answer a =
     record {
       refusal = read_number a;
@@ -153,7 +151,7 @@ parts_join_refused_answer q =
       reading = numbers_of unmentioned;
     }
 
-abbrev pub parts_joined_answer : PartsJoined → PartsJoinAnswer
+abbrev pub parts_joined_answer : Result PartsJoined Refusal → PartsJoinAnswer
 parts_joined_answer a =
     record {
       refusal = join_number a;

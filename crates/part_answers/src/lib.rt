@@ -6,7 +6,6 @@ ghost use Rattle.part_answers.specs.PartAnswers.{parts_done_answer, parts_refuse
 
 use coding::Reading;
 use fields::flag;
-use headed::Concatenation;
 use names::ReadingNumbers;
 use parted::PartRead;
 use words::Refusal;
@@ -83,26 +82,26 @@ pub fn parts_refused(refusal: Refusal) -> PartsAnswer
 }
 
 // Of reading a part.
-pub fn part_read(answer: PartRead) -> PartAnswer
+pub fn part_read(answer: Result<PartRead, Refusal>) -> PartAnswer
     ensures answer { result ≡ part_read_answer answer }
 {
     match answer {
-        PartRead::Done {
+        Ok(PartRead {
             units,
             reading,
             concatenation,
-        } => part_done(units, reading, concatenation),
-        PartRead::Refused(refusal) => part_refused(refusal),
+        }) => part_done(units, reading, concatenation),
+        Err(refusal) => part_refused(refusal),
     }
 }
 
 // A success of reading a part: 1 and the three numbers of its header, or zeros.
-fn part_done(written: usize, reading: Reading, concatenation: Concatenation) -> PartAnswer
+fn part_done(written: usize, reading: Reading, concatenation: Option<Numbers>) -> PartAnswer
     ensures { result ≡ part_done_answer written reading concatenation }
 {
     let numbers = names::numbers(reading);
     match concatenation {
-        Concatenation::Present(part) => PartAnswer {
+        Some(part) => PartAnswer {
             refusal: 0,
             numbered: 1,
             reference: part.reference,
@@ -112,7 +111,7 @@ fn part_done(written: usize, reading: Reading, concatenation: Concatenation) -> 
             written: written,
             reading: numbers,
         },
-        Concatenation::Absent => PartAnswer {
+        None => PartAnswer {
             refusal: 0,
             numbered: 0,
             reference: 0,

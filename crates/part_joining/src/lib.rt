@@ -9,34 +9,34 @@ ghost use Rattle.stream.specs.Storing.{given_answers, given_leaves};
 ghost use Rattle.parted.specs.Joined.{start_at, part_in, place_of, joined_content, joined_text, join_answers, join_leaves};
 ghost use Rattle.parted.specs.InnerJoined.{held_joins, held_join_leaves, text_joins, text_join_leaves, joined_as, Sorted, numbered_content, over_in, run_behind, run_read, run_open, run_in, Ready};
 
-use coding::{Held, OctetRead, Reading};
-use parted::{PartsJoined, PartsJudged};
-use words::{Filled, Refusal, Service};
+use coding::{Held, Reading};
+use parted::PartsJoined;
+use words::{Refusal, Service};
 
 // Joins parts, lent end to end in any order beside a list of their counts: the units of their text, what the coding octet says, their reference, and
 // how many they are.
 // Refuses compressed text (1), a coding that holds no text (2), octets that are not what the counts ask (4), a header that is longer than its part or,
 // in septets, than its count, or whose elements are wrong (12), an odd octet of UCS2 behind a header (4), parts that are not those of one message (10),
 // a short buffer (7): each over all parts before the next. Stores the units at the front of out; a refusal stores nothing.
-pub fn join_parts(coding: u8, counts: &[u8], octets: &[u8], out: &mut [u16]) -> PartsJoined
+pub fn join_parts(coding: u8, counts: &[u8], octets: &[u8], out: &mut [u16]) -> Result<PartsJoined, Refusal>
     ensures answer { result ≡ join_answers coding counts.now octets.now (length out.old) }
     ensures buffer { out.new ≡ join_leaves coding counts.now octets.now out.old }
 {
     match coding::read_octet(Service::ShortMessage, coding) {
-        OctetRead::Done(reading) => join_held(reading, counts, octets, out),
-        OctetRead::Refused(refusal) => PartsJoined::Refused(refusal),
+        Ok(reading) => join_held(reading, counts, octets, out),
+        Err(refusal) => Err(refusal),
     }
 }
 
 // The same behind the coding octet.
-fn join_held(reading: Reading, counts: &[u8], octets: &[u8], out: &mut [u16]) -> PartsJoined
+fn join_held(reading: Reading, counts: &[u8], octets: &[u8], out: &mut [u16]) -> Result<PartsJoined, Refusal>
     ensures answer { result ≡ held_joins reading counts.now octets.now (length out.old) }
     ensures buffer { out.new ≡ held_join_leaves reading counts.now octets.now out.old }
 {
     match reading.holds(Service::ShortMessage) {
-        Held::Septets => join_text(reading, false, counts, octets, out),
-        Held::Units => join_text(reading, true, counts, octets, out),
-        Held::Refused(refusal) => PartsJoined::Refused(refusal),
+        Ok(Held::Septets) => join_text(reading, false, counts, octets, out),
+        Ok(Held::Units) => join_text(reading, true, counts, octets, out),
+        Err(refusal) => Err(refusal),
     }
 }
 
@@ -47,7 +47,7 @@ fn join_text(
     counts: &[u8],
     octets: &[u8],
     out: &mut [u16],
-) -> PartsJoined
+) -> Result<PartsJoined, Refusal>
     ensures answer { result ≡ text_joins reading ucs2 counts.now octets.now (length out.old) }
     ensures buffer { out.new ≡ text_join_leaves ucs2 counts.now octets.now out.old }
 {
@@ -56,28 +56,28 @@ fn join_text(
     let order = part_order::part_order(ucs2, counts, octets, &mut places, &mut starts);
     let judged = order.judged;
     match judged {
-        PartsJudged::Right => joined(
+        Ok(()) => joined(
             reading,
             order.reference,
             counts.len(),
             store_text(ucs2, &places, &starts, counts, octets, out),
         ),
-        PartsJudged::Refused(refusal) => PartsJoined::Refused(refusal),
+        Err(refusal) => Err(refusal),
     }
 }
 
 // The answer of storing the text, with what the parts say of it.
-fn joined(reading: Reading, reference: u8, parts: usize, answer: Filled) -> PartsJoined
+fn joined(reading: Reading, reference: u8, parts: usize, answer: Result<usize, Refusal>) -> Result<PartsJoined, Refusal>
     ensures { result ≡ joined_as reading reference parts answer }
 {
     match answer {
-        Filled::Done(units) => PartsJoined::Done {
+        Ok(units) => Ok(PartsJoined {
             units: units,
             reading: reading,
             reference: reference,
             parts: parts,
-        },
-        Filled::Refused(refusal) => PartsJoined::Refused(refusal),
+        }),
+        Err(refusal) => Err(refusal),
     }
 }
 
@@ -89,18 +89,18 @@ fn store_text<'a>(
     counts: &[u8],
     octets: &[u8],
     out: &mut [u16],
-) -> Filled
+) -> Result<usize, Refusal>
     requires { Sorted ucs2 counts.now octets.now places.now starts.now }
     ensures answer { result ≡ given_answers (joined_text ucs2 counts.now octets.now) (length out.old) }
     ensures buffer { out.new ≡ given_leaves (joined_text ucs2 counts.now octets.now) out.old }
 {
     if !has_room(ucs2, places, starts, counts, octets, out.len()) {
-        return Filled::Refused(Refusal::NoRoom);
+        return Err(Refusal::NoRoom);
     }
     if ucs2 {
-        return Filled::Done(join_units(places, starts, counts, octets, out));
+        return Ok(join_units(places, starts, counts, octets, out));
     }
-    Filled::Done(join_septets(places, starts, counts, octets, out))
+    Ok(join_septets(places, starts, counts, octets, out))
 }
 
 // Whether so much room holds the text. Septets are never fewer than the units that they read as, so that these are counted only where the septets have
@@ -349,7 +349,7 @@ fn read_run(run: &[u8], out: &mut [u16]) -> usize
     ensures buffer { out.new ≡ laid (text_of run.now) out.old }
 {
     match to_text::septets_to_text(run, out) {
-        Filled::Done(units) => units,
-        Filled::Refused(_) => 0,
+        Ok(units) => units,
+        Err(_) => 0,
     }
 }

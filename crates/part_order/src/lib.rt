@@ -6,12 +6,11 @@ ghost use Rattle.headed.specs.Header.{header_size, right_header, header_numbers}
 ghost use Rattle.filling.specs.Numbered.{lacks};
 ghost use Rattle.parted.specs.Read.{wrong_head, odd_behind};
 ghost use Rattle.parted.specs.Joined.{octets_asked, most_count, wrong_counts, wrong_heads, odd_parts};
-ghost use Rattle.parted.specs.declared.PartsJudged.TheVariants.{Right};
 ghost use Rattle.parted.specs.Ordered.{places_of, starts_of, part_order_of, places_left, starts_left};
 ghost use Rattle.parted.specs.InnerJoined.{heads_judged, given_numbers, refused_order};
 
-use headed::{Concatenation, HeaderRead, Numbers};
-use parted::{PartOrder, PartsJudged};
+use headed::{HeaderRead, Numbers};
+use parted::PartOrder;
 use words::Refusal;
 
 // Whether no count is more than a short message holds, and they ask for as many octets as there are.
@@ -78,8 +77,8 @@ pub fn part_order<'a>(
         return refused(Refusal::WrongLength);
     }
     match judge_heads(ucs2, counts, octets) {
-        PartsJudged::Right => place_or_clear(ucs2, counts, octets, places, starts),
-        PartsJudged::Refused(refusal) => refused(refusal),
+        Ok(()) => place_or_clear(ucs2, counts, octets, places, starts),
+        Err(refusal) => refused(refusal),
     }
 }
 
@@ -88,7 +87,7 @@ fn refused(refusal: Refusal) -> PartOrder
     ensures { result ≡ refused_order refusal }
 {
     PartOrder {
-        judged: PartsJudged::Refused(refusal),
+        judged: Err(refusal),
         reference: 0,
     }
 }
@@ -101,7 +100,7 @@ struct Head {
 }
 
 // Judges the headers, and what stands behind them. A header that is wrong decides at once; an odd part only when all headers are known to be right.
-fn judge_heads(ucs2: bool, counts: &[u8], octets: &[u8]) -> PartsJudged
+fn judge_heads(ucs2: bool, counts: &[u8], octets: &[u8]) -> Result<(), Refusal>
     requires { wrong_counts ucs2 counts.now octets.now ≡ false }
     ensures { result ≡ heads_judged ucs2 counts.now octets.now }
 {
@@ -113,16 +112,16 @@ fn judge_heads(ucs2: bool, counts: &[u8], octets: &[u8]) -> PartsJudged
         let end = at + octets_asked(ucs2, count);
         let head = judge_head(ucs2, count, even, &octets[at..end]);
         if !head.right {
-            return PartsJudged::Refused(Refusal::WrongHeader);
+            return Err(Refusal::WrongHeader);
         }
         even = head.even;
         at = end;
         i += 1;
     }
     if !even {
-        return PartsJudged::Refused(Refusal::WrongLength);
+        return Err(Refusal::WrongLength);
     }
-    PartsJudged::Right
+    Ok(())
 }
 
 // Judges one part behind others that are even or not.
@@ -130,10 +129,10 @@ fn judge_head(ucs2: bool, count: u8, even: bool, part: &[u8]) -> Head
     ensures { (result.right ≡ not (wrong_head ucs2 count part.now)) × (result.right ≡ true → result.even ≡ (even && not (odd_behind ucs2 (header_size part.now) part.now))) }
 {
     match header::read_header(part) {
-        HeaderRead::Done {
+        Ok(HeaderRead {
             octets: size,
             concatenation: _,
-        } => {
+        }) => {
             if ucs2 {
                 return Head {
                     right: true,
@@ -145,7 +144,7 @@ fn judge_head(ucs2: bool, count: u8, even: bool, part: &[u8]) -> Head
                 even: even,
             }
         }
-        HeaderRead::Refused(_) => Head {
+        Err(_) => Head {
             right: false,
             even: even,
         },
@@ -168,8 +167,8 @@ fn place_or_clear<'a>(
     let order = place_parts(ucs2, counts, octets, places, starts);
     let judged = order.judged;
     match judged {
-        PartsJudged::Right => order,
-        PartsJudged::Refused(_) => {
+        Ok(()) => order,
+        Err(_) => {
             *places = [0u8; 256];
             *starts = [0u16; 256];
             order
@@ -189,7 +188,7 @@ fn place_parts<'a>(
     requires octets_value { (wrong_counts ucs2 counts.now octets.now ≡ false) × (wrong_heads ucs2 counts.now octets.now ≡ false) × (odd_parts ucs2 counts.now octets.now ≡ false) }
     requires places_value { (places.old ≡ replicate 256 0) × (starts.old ≡ replicate 256 0) }
     ensures value { result ≡ part_order_of ucs2 counts.now octets.now }
-    ensures places_after { result.judged ≡ Right → (places.new ≡ places_of ucs2 counts.now octets.now) × (starts.new ≡ starts_of ucs2 counts.now) }
+    ensures places_after { result.judged ≡ (Ok tt) → (places.new ≡ places_of ucs2 counts.now octets.now) × (starts.new ≡ starts_of ucs2 counts.now) }
 {
     let n = counts.len();
     if n == 0 {
@@ -218,7 +217,7 @@ fn place_parts<'a>(
         places[k] = i as u8;
     }
     PartOrder {
-        judged: PartsJudged::Right,
+        judged: Ok(()),
         reference: first.reference,
     }
 }
@@ -229,25 +228,25 @@ fn numbers_in(part: &[u8]) -> Numbers
     ensures { result ≡ given_numbers (header_numbers part.now) }
 {
     match header::read_header(part) {
-        HeaderRead::Done {
+        Ok(HeaderRead {
             octets: _,
             concatenation,
-        } => given(concatenation),
-        HeaderRead::Refused(_) => given(Concatenation::Absent),
+        }) => given(concatenation),
+        Err(_) => given(None),
     }
 }
 
 // The numbers that a header gives, and zeros where it has none.
-fn given(concatenation: Concatenation) -> Numbers
+fn given(concatenation: Option<Numbers>) -> Numbers
     ensures { result ≡ given_numbers concatenation }
 {
     match concatenation {
-        Concatenation::Absent => Numbers {
+        None => Numbers {
             reference: 0,
             total: 0,
             number: 0,
         },
-        Concatenation::Present(numbers) => numbers,
+        Some(numbers) => numbers,
     }
 }
 

@@ -6,23 +6,23 @@ ghost use Rattle.headed.specs.Header.{septets_over};
 ghost use Rattle.parted.specs.Read.{count_fits, part_reads, part_read_leaves};
 ghost use Rattle.parted.specs.Inner.{held_reads, held_read_leaves, behind_reads, behind_read_leaves, tail_reads, tail_leaves, with_reading, with_numbers};
 
-use coding::{Held, OctetRead, Reading};
-use headed::{Concatenation, HeaderRead};
+use coding::{Held, Reading};
+use headed::{HeaderRead, Numbers};
 use parted::{PartRead, TextRead};
-use words::{Filled, Refusal, Service};
+use words::{Refusal, Service};
 
 // Reads one short message, where the mark says whether a header stands in front: the units of its text, what its coding octet says, and the
 // numbers of the part as they stand, or none.
 // Refuses compressed text (1), a coding that holds no text (2), octets that are not what the count asks (4), a header that is longer than the octets
 // or, in septets, than the count, or whose elements are wrong (12), an odd octet of UCS2 behind the header (4), a short buffer (7).
 // Stores the units at the front of out; a refusal stores nothing.
-pub fn read_part(coding: u8, count: usize, marked: bool, octets: &[u8], out: &mut [u16]) -> PartRead
+pub fn read_part(coding: u8, count: usize, marked: bool, octets: &[u8], out: &mut [u16]) -> Result<PartRead, Refusal>
     ensures answer { result ≡ part_reads coding marked count octets.now (length out.old) }
     ensures buffer { out.new ≡ part_read_leaves coding marked count octets.now out.old }
 {
     match coding::read_octet(Service::ShortMessage, coding) {
-        OctetRead::Done(reading) => read_held(reading, count, marked, octets, out),
-        OctetRead::Refused(refusal) => PartRead::Refused(refusal),
+        Ok(reading) => read_held(reading, count, marked, octets, out),
+        Err(refusal) => Err(refusal),
     }
 }
 
@@ -33,63 +33,63 @@ fn read_held(
     marked: bool,
     octets: &[u8],
     out: &mut [u16],
-) -> PartRead
+) -> Result<PartRead, Refusal>
     ensures answer { result ≡ held_reads reading marked count octets.now (length out.old) }
     ensures buffer { out.new ≡ held_read_leaves reading marked count octets.now out.old }
 {
     match reading.holds(Service::ShortMessage) {
-        Held::Septets => shown(reading, read_behind(false, count, marked, octets, out)),
-        Held::Units => shown(reading, read_behind(true, count, marked, octets, out)),
-        Held::Refused(refusal) => PartRead::Refused(refusal),
+        Ok(Held::Septets) => shown(reading, read_behind(false, count, marked, octets, out)),
+        Ok(Held::Units) => shown(reading, read_behind(true, count, marked, octets, out)),
+        Err(refusal) => Err(refusal),
     }
 }
 
 // The answer of reading text, with the reading.
-fn shown(reading: Reading, answer: TextRead) -> PartRead
+fn shown(reading: Reading, answer: Result<TextRead, Refusal>) -> Result<PartRead, Refusal>
     ensures { result ≡ with_reading reading answer }
 {
     match answer {
-        TextRead::Done {
+        Ok(TextRead {
             units,
             concatenation,
-        } => PartRead::Done {
+        }) => Ok(PartRead {
             units: units,
             reading: reading,
             concatenation: concatenation,
-        },
-        TextRead::Refused(refusal) => PartRead::Refused(refusal),
+        }),
+        Err(refusal) => Err(refusal),
     }
 }
 
 // Reads the text of a message by itself: 4, 12, 4, 7.
-fn read_behind(ucs2: bool, count: usize, marked: bool, octets: &[u8], out: &mut [u16]) -> TextRead
+fn read_behind(ucs2: bool, count: usize, marked: bool, octets: &[u8], out: &mut [u16]) -> Result<TextRead, Refusal>
     ensures answer { result ≡ behind_reads ucs2 marked count octets.now (length out.old) }
     ensures buffer { out.new ≡ behind_read_leaves ucs2 marked count octets.now out.old }
 {
     if !count_fits(ucs2, octets.len(), count) {
-        return TextRead::Refused(Refusal::WrongLength);
+        return Err(Refusal::WrongLength);
     }
     if !marked {
         return numbered(
-            Concatenation::Absent,
+            None,
             read_tail(ucs2, 0, 0, count, octets, out),
         );
     }
     match header::read_header(octets) {
-        HeaderRead::Done {
+        Ok(HeaderRead {
             octets: size,
             concatenation,
-        } => {
+        }) => {
             let over = header::septets_over(octets[0]);
             if past_count(ucs2, over, count) {
-                return TextRead::Refused(Refusal::WrongHeader);
+                return Err(Refusal::WrongHeader);
             }
             numbered(
                 concatenation,
                 read_tail(ucs2, size, over, count, octets, out),
             )
         }
-        HeaderRead::Refused(refusal) => TextRead::Refused(refusal),
+        Err(refusal) => Err(refusal),
     }
 }
 
@@ -114,15 +114,15 @@ fn count_fits(ucs2: bool, octets: usize, count: usize) -> bool
 }
 
 // The answer of storing the text, with the numbers of the part.
-fn numbered(concatenation: Concatenation, answer: Filled) -> TextRead
+fn numbered(concatenation: Option<Numbers>, answer: Result<usize, Refusal>) -> Result<TextRead, Refusal>
     ensures { result ≡ with_numbers concatenation answer }
 {
     match answer {
-        Filled::Done(units) => TextRead::Done {
+        Ok(units) => Ok(TextRead {
             units: units,
             concatenation: concatenation,
-        },
-        Filled::Refused(refusal) => TextRead::Refused(refusal),
+        }),
+        Err(refusal) => Err(refusal),
     }
 }
 
@@ -134,7 +134,7 @@ fn read_tail(
     count: usize,
     octets: &[u8],
     out: &mut [u16],
-) -> Filled
+) -> Result<usize, Refusal>
     requires count_value { (count_fits ucs2 (length octets.now) count ≡ true) × (size ≤ length octets.now) × (over ≡ septets_over size) }
     requires over_le_count { ucs2 ≡ false → over ≤ count }
     ensures answer { result ≡ tail_reads ucs2 size count octets.now (length out.old) }
@@ -147,28 +147,28 @@ fn read_tail(
 }
 
 // UCS2: the octets behind the header are the units.
-fn read_units(size: usize, octets: &[u8], out: &mut [u16]) -> Filled
+fn read_units(size: usize, octets: &[u8], out: &mut [u16]) -> Result<usize, Refusal>
     requires { size ≤ length octets.now }
     ensures answer { result ≡ tail_reads true size 0 octets.now (length out.old) }
     ensures buffer { out.new ≡ tail_leaves true size 0 octets.now out.old }
 {
     let behind = octets.len() - size;
     if behind % 2 == 1 {
-        return Filled::Refused(Refusal::WrongLength);
+        return Err(Refusal::WrongLength);
     }
     if out.len() < behind / 2 {
-        return Filled::Refused(Refusal::NoRoom);
+        return Err(Refusal::NoRoom);
     }
-    Filled::Done(to_units::lay_units(&octets[size..], out))
+    Ok(to_units::lay_units(&octets[size..], out))
 }
 
 // 7-bit text: the octets unpacked into septets of our own, and those behind the header read by the alphabet.
-fn read_septets(size: usize, over: usize, count: usize, octets: &[u8], out: &mut [u16]) -> Filled
+fn read_septets(size: usize, over: usize, count: usize, octets: &[u8], out: &mut [u16]) -> Result<usize, Refusal>
     requires { (count_fits false (length octets.now) count ≡ true) × (over ≡ septets_over size) × (over ≤ count) }
     ensures answer { result ≡ tail_reads false size count octets.now (length out.old) }
     ensures buffer { out.new ≡ tail_leaves false size count octets.now out.old }
 {
     let mut septets = [0u8; 184];
-    packing::unpack_all(Service::ShortMessage, octets, count, &mut septets);
+    let _ = packing::unpack_all(Service::ShortMessage, octets, count, &mut septets);
     to_text::septets_to_text(&septets[over..count], out)
 }

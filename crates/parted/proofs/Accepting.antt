@@ -6,9 +6,10 @@
 --   write-accepts, write-accepted   write_part, exactly where part k is PartWritable
 --   read-accepts, read-accepted     read_part, exactly where the octets are PartReadable
 --   rules-accept, rules-accepted, read-rules-accepted   the same of their verdicts
---   counted_told, written_told, read_told   == the verdict that an answer tells
+--   verdict_of, verdict_of, verdict_of   == the verdict that an answer tells
 --   count-verdict, write-verdict, read-verdict   which is that of the call's rules
 --   coding-back          the coding octet that is written reads as the reading
+use Rattle.words.proofs.Rules.{verdict_of}
 use mathlib.Core.Path.{◌≡◌, refl, ap, ◌∙◌, sym}
 use mathlib.Core.Bool.{Bool, true, false, not, ◌&&◌}
 use mathlib.Core.List.{List, [], ◌∷◌, ◌++◌}
@@ -32,7 +33,6 @@ use Rattle.letters.specs.Writing.{septets_in, first_unlisted}
 use Rattle.letters.specs.Sized.{not_codable}
 use Rattle.stream.specs.Stream.{cut, octets_for, packed}
 use Rattle.stream.specs.Ucs2.{unit_octets}
-use Rattle.demands.specs.declared.MessageWritten.TheVariants as message-written
 use Rattle.demands.specs.MessageWritten.{text_octets, text_size_rules, over_size, message_octets, message_count, size_rules, write_rules, write_answers}
 use Rattle.demands.specs.Demands.{Writable}
 use Rattle.demands.proofs.Accepting.{text-accepts, write-accepts as message-accepts, write-accepted as message-accepted, write-verdict as message-verdict}
@@ -40,49 +40,38 @@ use Rattle.demands.proofs.Octets.{write-reads}
 use Rattle.demands.proofs.Steps.{text-accepted}
 use Rattle.filling.specs.Numbered.{lacks}
 use Rattle.filling.proofs.Placing.{lacks-none, none-lacks}
-use Rattle.headed.specs.declared.Concatenation.{Concatenation}
-use Rattle.parted.specs.declared.Counted.{Counted}
-use Rattle.parted.specs.declared.Counted.TheVariants as counted
 use Rattle.parted.specs.declared.PartWritten.{PartWritten}
-use Rattle.parted.specs.declared.PartWritten.TheVariants as written
 use Rattle.parted.specs.declared.PartRead.{PartRead}
-use Rattle.parted.specs.declared.PartRead.TheVariants as read
 use Rattle.parted.specs.Parts.{most_parts, is_marked}
 use Rattle.parted.specs.Written.{reading_parts, octets_as, count_as, size_rules as part_size_rules, count_rules, count_answers, part_rules, part_answers, part_leaves}
 use Rattle.parted.specs.Read.{count_fits, head_size, wrong_head, odd_behind, text_behind, marked_numbers, behind_rules, part_read_rules, part_reads, part_read_leaves}
 use Rattle.parted.specs.Messages.{ReadingWritable, PartsWritable, PartWritable, PartReadable}
+use Rattle.std.specs.Prelude.{Result, Option, Ok, Err}
+use Rattle.words.specs.declared.Refusal.{Refusal}
+use Rattle.headed.specs.declared.Numbers.{Numbers}
+use Rattle.demands.specs.Successes.{ok_message_written}
+use Rattle.parted.specs.Successes.{ok_part_read}
+use Rattle.parted.specs.Successes.{ok_part_written}
 
 -- ---- the verdict that an answer tells
 
-abbrev pub counted_told : Counted → Verdict
-counted_told (counted.Parts n) = accepted
-counted_told (counted.Refused q) = refused q
-
-abbrev pub written_told : PartWritten → Verdict
-written_told (written.Done octets count marked coding parts) = accepted
-written_told (written.Refused q) = refused q
-
-abbrev pub read_told : PartRead → Verdict
-read_told (read.Done units reading concatenation) = accepted
-read_told (read.Refused q) = refused q
-
-pub count-verdict : (r : Reading) (t : List ℕ) (a : Counted) → a ≡ count_answers r t → verdict (count_rules r t) ≡ counted_told a
+pub count-verdict : (r : Reading) (t : List ℕ) (a : Result ℕ Refusal) → a ≡ count_answers r t → verdict (count_rules r t) ≡ verdict_of a
 unfolding count_answers
-count-verdict r t a e = settle-told counted_told counted.Refused (counted.Parts (reading_parts r t)) (λ q. refl) refl (verdict (count_rules r t)) a e
+count-verdict r t a e = settle-told verdict_of Err (Ok (reading_parts r t)) (λ q. refl) refl (verdict (count_rules r t)) a e
 
-pub write-verdict : (r : Reading) (reference : ℕ) (t : List ℕ) (k room : ℕ) (a : PartWritten) → a ≡ part_answers r reference t k room → verdict (part_rules r reference t k room) ≡ written_told a
+pub write-verdict : (r : Reading) (reference : ℕ) (t : List ℕ) (k room : ℕ) (a : Result PartWritten Refusal) → a ≡ part_answers r reference t k room → verdict (part_rules r reference t k room) ≡ verdict_of a
 unfolding part_answers
 write-verdict r reference t k room a e =
-    settle-told written_told written.Refused
-    (written.Done (length (octets_as r reference t k)) (count_as r reference t k) (is_marked (reading_parts r t)) (smallest ShortMessage r) (reading_parts r t))
+    settle-told verdict_of Err
+    (ok_part_written (length (octets_as r reference t k)) (count_as r reference t k) (is_marked (reading_parts r t)) (smallest ShortMessage r) (reading_parts r t))
     (λ q. refl) refl (verdict (part_rules r reference t k room)) a e
 
-pub read-verdict : (coding : ℕ) (marked : Bool) (count : ℕ) (o : List ℕ) (room : ℕ) (a : PartRead) → a ≡ part_reads coding marked count o room
-    → verdict (part_read_rules (read_under ShortMessage coding) marked count o room) ≡ read_told a
+pub read-verdict : (coding : ℕ) (marked : Bool) (count : ℕ) (o : List ℕ) (room : ℕ) (a : Result PartRead Refusal) → a ≡ part_reads coding marked count o room
+    → verdict (part_read_rules (read_under ShortMessage coding) marked count o room) ≡ verdict_of a
 unfolding part_reads
 read-verdict coding marked count o room a e =
-    settle-told read_told read.Refused
-    (read.Done (length (text_behind (is_ucs2 (read_under ShortMessage coding).alphabet) (head_size marked o) count o)) (read_under ShortMessage coding) (marked_numbers marked o))
+    settle-told verdict_of Err
+    (ok_part_read (length (text_behind (is_ucs2 (read_under ShortMessage coding).alphabet) (head_size marked o) count o)) (read_under ShortMessage coding) (marked_numbers marked o))
     (λ q. refl) refl (verdict (part_read_rules (read_under ShortMessage coding) marked count o room)) a e
 
 -- ---- the reading
@@ -134,7 +123,7 @@ module _ (r : Reading) where
   unfolding write_rules write_answers
   reading-accepted c t =
       let v = accepted-both (coding_rules ShortMessage r) (text_rules ShortMessage r ++ size_rules ShortMessage r [] 0) c (accepted-both (text_rules ShortMessage r) (size_rules ShortMessage r [] 0) t empty-size) in
-      let w = message-accepted ShortMessage r [] 0 _ _ _ refl (settle-given (verdict (write_rules ShortMessage r [] 0)) message-written.Refused (message-written.Done (length (message_octets ShortMessage r [])) (message_count ShortMessage r []) (smallest ShortMessage r)) v) in
+      let w = message-accepted ShortMessage r [] 0 _ _ _ refl (settle-given (verdict (write_rules ShortMessage r [] 0)) Err (ok_message_written (length (message_octets ShortMessage r [])) (message_count ShortMessage r []) (smallest ShortMessage r)) v) in
       record { plain = w.plain; octet = w.octet; holds = w.holds }
 
   pub coding-back : ReadingWritable r → read_under ShortMessage (smallest ShortMessage r) ≡ r
@@ -161,12 +150,12 @@ module _ (r : Reading) (t : List ℕ) where
       let five = accepted-rule (ltb most_parts (reading_parts r t)) TooLong [] six.1 in
       record { reading = reading-accepted r v.0 w.0; codable = six.0; sized = ltb-false most_parts (reading_parts r t) five.0 }
 
-  pub count-accepts : PartsWritable r t → count_answers r t ≡ counted.Parts (reading_parts r t)
+  pub count-accepts : PartsWritable r t → count_answers r t ≡ Ok (reading_parts r t)
   unfolding count_answers
-  count-accepts w = settle-given _ counted.Refused _ (rules-accept w)
+  count-accepts w = settle-given _ Err _ (rules-accept w)
 
-  pub count-accepted : (n : ℕ) → count_answers r t ≡ counted.Parts n → PartsWritable r t
-  count-accepted n e = rules-accepted (count-verdict r t (counted.Parts n) (sym e))
+  pub count-accepted : (n : ℕ) → count_answers r t ≡ Ok n → PartsWritable r t
+  count-accepted n e = rules-accepted (count-verdict r t (Ok n) (sym e))
 
 -- ---- writing one part
 
@@ -179,16 +168,16 @@ module _ (r : Reading) (reference : ℕ) (t : List ℕ) (k : ℕ) where
 
   pub write-accepts : (out : List ℕ) → PartWritable r reference t k (length out)
       → (part_answers r reference t k (length out)
-      ≡ written.Done (length (octets_as r reference t k)) (count_as r reference t k) (is_marked (reading_parts r t)) (smallest ShortMessage r) (reading_parts r t))
+      ≡ ok_part_written (length (octets_as r reference t k)) (count_as r reference t k) (is_marked (reading_parts r t)) (smallest ShortMessage r) (reading_parts r t))
       × (part_leaves r reference t k out ≡ laid (octets_as r reference t k) out)
   unfolding part_answers part_leaves
-  write-accepts out w = (settle-given _ written.Refused _ (part-rules-accept (length out) w), settle-given _ (λ q. out) _ (part-rules-accept (length out) w))
+  write-accepts out w = (settle-given _ Err _ (part-rules-accept (length out) w), settle-given _ (λ q. out) _ (part-rules-accept (length out) w))
 
-  pub write-accepted : (room octets count : ℕ) (marked : Bool) (coding parts : ℕ) → part_answers r reference t k room ≡ written.Done octets count marked coding parts → PartWritable r reference t k room
+  pub write-accepted : (room octets count : ℕ) (marked : Bool) (coding parts : ℕ) → part_answers r reference t k room ≡ ok_part_written octets count marked coding parts → PartWritable r reference t k room
   unfolding part_rules
   write-accepted room octets count marked coding parts e =
       let long : ℕ = length (octets_as r reference t k) in
-      let v = accepted-parts (count_rules r t) (when (lacks (reading_parts r t) k) WrongPages ∷ when (ltb room long) NoRoom ∷ []) (write-verdict r reference t k room (written.Done octets count marked coding parts) (sym e)) in
+      let v = accepted-parts (count_rules r t) (when (lacks (reading_parts r t) k) WrongPages ∷ when (ltb room long) NoRoom ∷ []) (write-verdict r reference t k room (ok_part_written octets count marked coding parts) (sym e)) in
       let ten = accepted-rule (lacks (reading_parts r t) k) WrongPages (when (ltb room long) NoRoom ∷ []) v.1 in
       let seven = accepted-rule (ltb room long) NoRoom [] ten.1 in
       let l = none-lacks (reading_parts r t) k ten.0 in
@@ -217,9 +206,9 @@ module _ (coding : ℕ) (marked : Bool) (count : ℕ) (o : List ℕ) where
       head false h = refl
 
   pub read-accepts : (out : List ℕ) → PartReadable coding marked count o (length out)
-      → (part_reads coding marked count o (length out) ≡ read.Done (length text) heard (marked_numbers marked o)) × (part_read_leaves coding marked count o out ≡ laid text out)
+      → (part_reads coding marked count o (length out) ≡ ok_part_read (length text) heard (marked_numbers marked o)) × (part_read_leaves coding marked count o out ≡ laid text out)
   unfolding part_reads part_read_leaves
-  read-accepts out w = (settle-given _ read.Refused _ (read-rules-accept (length out) w), settle-given _ (λ q. out) _ (read-rules-accept (length out) w))
+  read-accepts out w = (settle-given _ Err _ (read-rules-accept (length out) w), settle-given _ (λ q. out) _ (read-rules-accept (length out) w))
 
   pub read-rules-accepted : (room : ℕ) → verdict (part_read_rules heard marked count o room) ≡ accepted → PartReadable coding marked count o room
   unfolding part_read_rules behind_rules
@@ -237,5 +226,5 @@ module _ (coding : ℕ) (marked : Bool) (count : ℕ) (o : List ℕ) where
         fits = ltb-false room (length text) seven.0;
       }
 
-  pub read-accepted : (room units : ℕ) (reading : Reading) (c : Concatenation) → part_reads coding marked count o room ≡ read.Done units reading c → PartReadable coding marked count o room
-  read-accepted room units reading c e = read-rules-accepted room (read-verdict coding marked count o room (read.Done units reading c) (sym e))
+  pub read-accepted : (room units : ℕ) (reading : Reading) (c : Option Numbers) → part_reads coding marked count o room ≡ ok_part_read units reading c → PartReadable coding marked count o room
+  read-accepted room units reading c e = read-rules-accepted room (read-verdict coding marked count o room (ok_part_read units reading c) (sym e))

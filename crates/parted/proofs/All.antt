@@ -2,7 +2,7 @@
 -- writes, since the sizes say where each part begins. Parts are filled as W1's pages are, so that every part but the last has 140 octets.
 -- Assumes nothing.
 --   all-accepts, all-accepted   write_parts accepts exactly where the parts are PartsStorable
---   all_told, all-verdict, given_all   the verdict that an answer tells, which is that of the rules; what an accepting call answers
+--   verdict_of, all-verdict, given_all   the verdict that an answer tells, which is that of the rules; what an accepting call answers
 --   all-storable, all-writable, all-octets, all-sizes, all-mark, all-coding, all-total   what a call that accepted its text says of it, and has sent
 --   all-at               part i of what was sent, and its sizes
 --   all-is-written       it is what write_part writes and reports
@@ -11,6 +11,7 @@
 --   any-reference, all_room   which room is enough does not depend on the reference, and 140 octets and two sizes a part are
 --   sent-length, sent-sizes-length   how much was sent: 140 octets for every part but the last, two sizes a part
 --   parts-alone-iff, parts-least, parts-filled, content-is, parts-joined   how many parts, and what each holds
+use Rattle.words.proofs.Rules.{verdict_of}
 use mathlib.Core.Path.{◌≡◌, refl, ap, ap₂, ◌∙◌, sym, subst}
 use mathlib.Core.Bool.{Bool, true, false, ◌||◌}
 use mathlib.Core.List.{List, [], ◌∷◌}
@@ -34,10 +35,7 @@ use Rattle.stream.specs.Stream.{octets_for}
 use Rattle.demands.proofs.Demands.{take-laid}
 use Rattle.filling.specs.Filling.{fewest, part_at, parts_from}
 use Rattle.filling.proofs.Parts.{fewest-least, parts_all}
-use Rattle.parted.specs.declared.Planned.TheVariants as planned
-use Rattle.parted.specs.declared.PartWritten.TheVariants as part
 use Rattle.parted.specs.declared.PartsWritten.{PartsWritten}
-use Rattle.parted.specs.declared.PartsWritten.TheVariants as written
 use Rattle.parted.specs.Parts.{most_parts, room_behind, is_marked, mark_size, part_content}
 use Rattle.parted.specs.Written.{reading_parts, reading_content, octets_as, count_as, all_octets, octets_of_all, sizes_of_all, size_rules, count_rules, part_answers, part_leaves, all_rules, all_answers, all_leaves, sizes_leaves}
 use Rattle.parted.specs.Cutting.{plan_of, planned_as}
@@ -50,12 +48,12 @@ use Rattle.parted.proofs.Parts.{part-fits}
 use Rattle.parted.proofs.Accepting.{rules-accept, rules-accepted, write-accepts}
 use Rattle.parted.proofs.Plans.{Cut, cut-told, length-full, part-long, octets-is, octets-full}
 use Rattle.parted.proofs.Ends.{sizes-length, sizes-at, piece-at, octets-length}
+use Rattle.std.specs.Prelude.{Result, Ok, Err}
+use Rattle.words.specs.declared.Refusal.{Refusal}
+use Rattle.parted.specs.Successes.{ok_parts_written}
+use Rattle.parted.specs.Successes.{ok_part_written}
 
 -- ---- the verdict that an answer tells
-
-abbrev pub all_told : PartsWritten → Verdict
-all_told (written.Done octets marked coding parts) = accepted
-all_told (written.Refused q) = refused q
 
 module _ (r : Reading) (reference : ℕ) (t : List ℕ) where
   abbrev octets : List ℕ
@@ -64,12 +62,12 @@ module _ (r : Reading) (reference : ℕ) (t : List ℕ) where
   abbrev sizes : List ℕ
   sizes = sizes_of_all r reference t
 
-  abbrev pub given_all : PartsWritten
-  given_all = written.Done (length (octets_of_all r reference t)) (is_marked (reading_parts r t)) (smallest ShortMessage r) (reading_parts r t)
+  abbrev pub given_all : Result PartsWritten Refusal
+  given_all = ok_parts_written (length (octets_of_all r reference t)) (is_marked (reading_parts r t)) (smallest ShortMessage r) (reading_parts r t)
 
-  pub all-verdict : (room list : ℕ) (a : PartsWritten) → a ≡ all_answers r reference t room list → verdict (all_rules r reference t room list) ≡ all_told a
+  pub all-verdict : (room list : ℕ) (a : Result PartsWritten Refusal) → a ≡ all_answers r reference t room list → verdict (all_rules r reference t room list) ≡ verdict_of a
   unfolding all_answers
-  all-verdict room list a e = settle-told all_told written.Refused given_all (λ q. refl) refl (verdict (all_rules r reference t room list)) a e
+  all-verdict room list a e = settle-told verdict_of Err given_all (λ q. refl) refl (verdict (all_rules r reference t room list)) a e
 
   listed-length : length (sizes_of_all r reference t) ≡ 2 * reading_parts r t
   listed-length = sizes-length (is_ucs2 r.alphabet) reference (reading_parts r t) (reading_content r t) 1 (reading_parts r t)
@@ -82,18 +80,18 @@ module _ (r : Reading) (reference : ℕ) (t : List ℕ) where
 
   pub all-accepts : (out list : List ℕ) → PartsStorable r reference t (length out) (length list)
       → (all_answers r reference t (length out) (length list)
-      ≡ written.Done (length (octets_of_all r reference t)) (is_marked (reading_parts r t)) (smallest ShortMessage r) (reading_parts r t))
+      ≡ ok_parts_written (length (octets_of_all r reference t)) (is_marked (reading_parts r t)) (smallest ShortMessage r) (reading_parts r t))
       × (all_leaves r reference t (length list) out ≡ laid (octets_of_all r reference t) out)
       × (sizes_leaves r reference t (length out) list ≡ laid (sizes_of_all r reference t) list)
   unfolding all_answers all_leaves sizes_leaves
   all-accepts out list w =
       let v = rules-accept-all (length out) (length list) w in
-      (settle-given _ written.Refused _ v, settle-given _ (λ q. out) _ v, settle-given _ (λ q. list) _ v)
+      (settle-given _ Err _ v, settle-given _ (λ q. out) _ v, settle-given _ (λ q. list) _ v)
 
-  pub all-accepted : (room list n : ℕ) (marked : Bool) (coding parts : ℕ) → all_answers r reference t room list ≡ written.Done n marked coding parts → PartsStorable r reference t room list
+  pub all-accepted : (room list n : ℕ) (marked : Bool) (coding parts : ℕ) → all_answers r reference t room list ≡ ok_parts_written n marked coding parts → PartsStorable r reference t room list
   unfolding all_rules
   all-accepted room list n marked coding parts e =
-      let v = accepted-parts (count_rules r t) (when (ltb room (length octets) || ltb list (length sizes)) NoRoom ∷ []) (all-verdict room list (written.Done n marked coding parts) (sym e)) in
+      let v = accepted-parts (count_rules r t) (when (ltb room (length octets) || ltb list (length sizes)) NoRoom ∷ []) (all-verdict room list (ok_parts_written n marked coding parts) (sym e)) in
       let seven = accepted-rule (ltb room (length octets) || ltb list (length sizes)) NoRoom [] v.1 in
       record {
         writable = rules-accepted r t v.0;
@@ -107,15 +105,15 @@ module _ (r : Reading) (reference : ℕ) (t out list : List ℕ) (a : SendsParts
   pub all-storable : PartsStorable r reference t (length out) (length list)
   all-storable = go (all_answers r reference t (length out) (length list)) refl a
     where
-      go : (x : PartsWritten) → all_answers r reference t (length out) (length list) ≡ x → parts_number x ≡ 0 → PartsStorable r reference t (length out) (length list)
-      go (written.Done n m d p) e z = all-accepted r reference t (length out) (length list) n m d p e
-      go (written.Refused q) e z = absurd (omega (arith, number-above-0 q))
+      go : (x : Result PartsWritten Refusal) → all_answers r reference t (length out) (length list) ≡ x → parts_number x ≡ 0 → PartsStorable r reference t (length out) (length list)
+      go (Ok w) e z = all-accepted r reference t (length out) (length list) w.octets w.marked w.coding w.parts e
+      go (Err q) e z = absurd (omega (arith, number-above-0 q))
 
   pub all-writable : PartsWritable r t
   all-writable = all-storable.writable
 
   answer : all_answers r reference t (length out) (length list)
-      ≡ written.Done (length (octets_of_all r reference t)) (is_marked (reading_parts r t)) (smallest ShortMessage r) (reading_parts r t)
+      ≡ ok_parts_written (length (octets_of_all r reference t)) (is_marked (reading_parts r t)) (smallest ShortMessage r) (reading_parts r t)
   answer = (all-accepts r reference t out list all-storable).0
 
   pub all-octets : sent_all r reference t out list ≡ octets_of_all r reference t
@@ -124,7 +122,7 @@ module _ (r : Reading) (reference : ℕ) (t out list : List ℕ) (a : SendsParts
   pub all-sizes : sent_sizes r reference t out list ≡ sizes_of_all r reference t
   all-sizes =
       let many : 2 * parts_parts (all_answers r reference t (length out) (length list)) ≡ length (sizes_of_all r reference t) =
-      ap (λ (x : PartsWritten). 2 * parts_parts x) answer ∙ sym (listed-length r reference t) in
+      ap (λ (x : Result PartsWritten Refusal). 2 * parts_parts x) answer ∙ sym (listed-length r reference t) in
       ap₂ take many (all-accepts r reference t out list all-storable).2 ∙ take-laid (sizes_of_all r reference t) list
 
   pub all-mark : sent_all_mark r reference t out list ≡ is_marked (reading_parts r t)
@@ -153,7 +151,7 @@ module _ (r : Reading) (reference : ℕ) (t out list : List ℕ) (a : SendsParts
   -- and write_part writes just that
   pub all-is-written : (k : ℕ) → 1 ≤ k → k ≤ sent_total r reference t out list → (lent : List ℕ) → size_in (sent_sizes r reference t out list) (k - 1) ≤ length lent
       → (part_answers r reference t k (length lent)
-      ≡ part.Done (size_in (sent_sizes r reference t out list) (k - 1)) (count_in (sent_sizes r reference t out list) (k - 1)) (sent_all_mark r reference t out list)
+      ≡ ok_part_written (size_in (sent_sizes r reference t out list) (k - 1)) (count_in (sent_sizes r reference t out list) (k - 1)) (sent_all_mark r reference t out list)
       (sent_all_coding r reference t out list) (sent_total r reference t out list))
       × (part_leaves r reference t k lent ≡ laid (piece_in (sent_sizes r reference t out list) (sent_all r reference t out list) (k - 1)) lent)
   all-is-written k some most lent room =
@@ -165,9 +163,9 @@ module _ (r : Reading) (reference : ℕ) (t out list : List ℕ) (a : SendsParts
       let piece : piece_in (sent_sizes r reference t out list) (sent_all r reference t out list) (k - 1) ≡ octets_as r reference t k = s.2 ∙ ap (octets_as r reference t) which in
       let w = write-accepts r reference t k lent record { writable = all-writable; some = some; most = within; fits = omega arith } in (
         w.0
-            ∙ ap₂ (λ (n c : ℕ). part.Done n c (is_marked (reading_parts r t)) (smallest ShortMessage r) (reading_parts r t)) (sym size) (sym count)
-            ∙ ap₂ (λ (m : Bool) (d : ℕ). part.Done (size_in (sent_sizes r reference t out list) (k - 1)) (count_in (sent_sizes r reference t out list) (k - 1)) m d (reading_parts r t)) (sym all-mark) (sym all-coding)
-            ∙ ap (part.Done (size_in (sent_sizes r reference t out list) (k - 1)) (count_in (sent_sizes r reference t out list) (k - 1)) (sent_all_mark r reference t out list) (sent_all_coding r reference t out list)) (sym all-total),
+            ∙ ap₂ (λ (n c : ℕ). ok_part_written n c (is_marked (reading_parts r t)) (smallest ShortMessage r) (reading_parts r t)) (sym size) (sym count)
+            ∙ ap₂ (λ (m : Bool) (d : ℕ). ok_part_written (size_in (sent_sizes r reference t out list) (k - 1)) (count_in (sent_sizes r reference t out list) (k - 1)) m d (reading_parts r t)) (sym all-mark) (sym all-coding)
+            ∙ ap (ok_part_written (size_in (sent_sizes r reference t out list) (k - 1)) (count_in (sent_sizes r reference t out list) (k - 1)) (sent_all_mark r reference t out list) (sent_all_coding r reference t out list)) (sym all-total),
         w.1 ∙ ap (λ (l : List ℕ). laid l lent) (sym piece),
       )
 
@@ -211,7 +209,7 @@ module _ (r : Reading) (t : List ℕ) where
     unfolding planned_as size_rules verdict
     cut =
         let v : verdict (size_rules ucs2 t) ≡ accepted = simp (w.codable, le-ltb most_parts total w.sized) in
-        (cut-told ucs2 t (plan_of ucs2 t) (sym (settle-given (verdict (size_rules ucs2 t)) planned.Refused (planned.Parts (plan_of ucs2 t)) v))).2
+        (cut-told ucs2 t (plan_of ucs2 t) (sym (settle-given (verdict (size_rules ucs2 t)) Err (Ok (plan_of ucs2 t)) v))).2
 
     -- "every page but the last is full"
     pub part-whole : (reference k : ℕ) → 1 ≤ k → k < reading_parts r t → length (octets_as r reference t k) ≡ 140

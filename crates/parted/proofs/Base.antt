@@ -27,14 +27,9 @@ use Rattle.letters.specs.Writing.{first_unlisted}
 use Rattle.letters.specs.Reading.{text_of}
 use Rattle.letters.specs.Sized.{content_of, not_codable}
 use Rattle.stream.specs.Ucs2.{unit_octets}
-use Rattle.demands.specs.declared.MessageRead.TheVariants as message-read
-use Rattle.demands.specs.declared.MessageWritten.TheVariants as message-written
 use Rattle.demands.specs.MessageRead.{fits_text, held_text, text_length_rules, read_rules, read_answers, read_leaves}
 use Rattle.demands.specs.MessageWritten.{over_size, text_octets, text_count, text_size_rules, message_octets, message_count, write_rules, write_answers, write_leaves}
 use Rattle.filling.specs.Numbered.{lacks}
-use Rattle.headed.specs.declared.Concatenation.TheVariants.{Absent}
-use Rattle.parted.specs.declared.PartWritten.TheVariants as written
-use Rattle.parted.specs.declared.PartRead.TheVariants as read
 use Rattle.parted.specs.Behind.{packed_behind, unpacked_behind}
 use Rattle.parted.specs.Parts.{most_parts, room_behind, is_marked, headed_octets, headed_count, part_octets, part_count}
 use Rattle.parted.specs.Written.{reading_parts, reading_content, octets_as, count_as, size_rules, count_rules, part_rules, part_answers, part_leaves}
@@ -43,6 +38,11 @@ use Rattle.parted.specs.Messages.{alone, unmarked}
 use Rattle.parted.proofs.Behind.{packed-behind-0, unpacked-behind-0}
 use Rattle.parted.proofs.Rooms.{septets-over-0, alone-room, parts-alone}
 use Rattle.parted.proofs.Parts.{lone-content, lone-header}
+use Rattle.std.specs.Prelude.{Err, None}
+use Rattle.parted.specs.Successes.{ok_part_read}
+use Rattle.demands.specs.Successes.{ok_message_read}
+use Rattle.demands.specs.Successes.{ok_message_written}
+use Rattle.parted.specs.Successes.{ok_part_written}
 
 -- the same rules in front
 same-behind : (first x y : List Rule) → verdict x ≡ verdict y → verdict (first ++ x) ≡ verdict (first ++ y)
@@ -75,7 +75,7 @@ unfolding verdict
 lone-tail true b u = refl
 lone-tail false b u = refl
 
-alone-settle : (v : Verdict) (n c d : ℕ) → settle v written.Refused (written.Done n c false d 1) ≡ alone (settle v message-written.Refused (message-written.Done n c d))
+alone-settle : (v : Verdict) (n c d : ℕ) → settle v Err (ok_part_written n c false d 1) ≡ alone (settle v Err (ok_message_written n c d))
 alone-settle (refused q) n c d = refl
 alone-settle accepted n c d = refl
 
@@ -118,9 +118,9 @@ module _ (r : Reading) (reference : ℕ) (t : List ℕ) (fits : length (reading_
   unfolding part_answers part_leaves write_answers write_leaves
   lone-is-base out =
       let v = lone-verdict (length out) in (
-        ap₂ (λ (w : Verdict) (o : List ℕ). settle w written.Refused (written.Done (length o) (count_as r reference t 1) (is_marked (reading_parts r t)) (smallest ShortMessage r) (reading_parts r t))) v lone-octets
+        ap₂ (λ (w : Verdict) (o : List ℕ). settle w Err (ok_part_written (length o) (count_as r reference t 1) (is_marked (reading_parts r t)) (smallest ShortMessage r) (reading_parts r t))) v lone-octets
             ∙ ap₂
-            (λ (c n : ℕ). settle (verdict (write_rules ShortMessage r t (length out))) written.Refused (written.Done (length (message_octets ShortMessage r t)) c (is_marked n) (smallest ShortMessage r) n))
+            (λ (c n : ℕ). settle (verdict (write_rules ShortMessage r t (length out))) Err (ok_part_written (length (message_octets ShortMessage r t)) c (is_marked n) (smallest ShortMessage r) n))
             lone-count one
             ∙ alone-settle (verdict (write_rules ShortMessage r t (length out))) (length (message_octets ShortMessage r t)) (message_count ShortMessage r t) (smallest ShortMessage r),
         ap₂ (λ (w : Verdict) (o : List ℕ). settle w (λ q. out) (laid o out)) v lone-octets,
@@ -167,7 +167,7 @@ unmarked-tail false count o room =
     ap (λ (l : List ℕ). verdict (when (not (fits_text ShortMessage false (length o) count)) WrongLength ∷ when false WrongHeader ∷ when false WrongLength ∷ when (ltb room (length l)) NoRoom ∷ [])) (none-text false count o)
     ∙ seven-tail (not (fits_text ShortMessage false (length o) count)) (ltb room (length (held_text ShortMessage false count o)))
 
-unmarked-settle : (v : Verdict) (n : ℕ) (r : Reading) → settle v read.Refused (read.Done n r Absent) ≡ unmarked (settle v message-read.Refused (message-read.Done n r))
+unmarked-settle : (v : Verdict) (n : ℕ) (r : Reading) → settle v Err (ok_part_read n r None) ≡ unmarked (settle v Err (ok_message_read n r))
 unmarked-settle (refused q) n r = refl
 unmarked-settle accepted n r = refl
 
@@ -179,7 +179,7 @@ unmarked-is-base coding count o out =
     let ucs2 : Bool = is_ucs2 (read_under ShortMessage coding).alphabet in
     let v : verdict (part_read_rules (read_under ShortMessage coding) false count o (length out)) ≡ verdict (read_rules ShortMessage coding count o (length out)) =
     same-behind (text_rules ShortMessage r) (behind_rules ucs2 false count o (length out)) (text_length_rules ShortMessage ucs2 count o (length out)) (unmarked-tail ucs2 count o (length out)) in (
-      ap₂ (λ (w : Verdict) (l : List ℕ). settle w read.Refused (read.Done (length l) r Absent)) v (none-text ucs2 count o)
+      ap₂ (λ (w : Verdict) (l : List ℕ). settle w Err (ok_part_read (length l) r None)) v (none-text ucs2 count o)
           ∙ unmarked-settle (verdict (read_rules ShortMessage coding count o (length out))) (length (held_text ShortMessage ucs2 count o)) r,
       ap₂ (λ (w : Verdict) (l : List ℕ). settle w (λ q. out) (laid l out)) v (none-text ucs2 count o),
     )

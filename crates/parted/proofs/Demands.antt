@@ -28,11 +28,7 @@ use Rattle.letters.proofs.Theorems.{septets-below, text-septets}
 use Rattle.letters.proofs.Texts.{codable-told}
 use Rattle.demands.specs.Demands.{HoldsText}
 use Rattle.demands.proofs.Demands.{take-laid}
-use Rattle.headed.specs.declared.Concatenation.{Concatenation}
-use Rattle.headed.specs.declared.Concatenation.TheVariants.{Absent}
 use Rattle.parted.specs.declared.PartWritten.{PartWritten}
-use Rattle.parted.specs.declared.PartWritten.TheVariants as written
-use Rattle.parted.specs.declared.PartRead.TheVariants as read
 use Rattle.parted.specs.Parts.{is_marked, part_header, part_content, headed_octets, headed_count, part_octets, part_count}
 use Rattle.parted.specs.Written.{reading_parts, reading_content, octets_as, count_as, part_answers}
 use Rattle.parted.specs.Read.{count_fits, head_size, wrong_head, odd_behind, text_behind, marked_numbers, shown_as}
@@ -42,6 +38,11 @@ use Rattle.parted.proofs.Rooms.{parts-1-iff}
 use Rattle.parted.proofs.Headed.{headed-same, headed-header}
 use Rattle.parted.proofs.Parts.{header-own, header-long, header-none, numbers-same, content-below, part-fits, part_right, part-even, part-numbers, part-content, lone-content}
 use Rattle.parted.proofs.Accepting.{coding-back, write-accepts, write-accepted, read-accepts}
+use Rattle.std.specs.Prelude.{Result, Option, Err, None}
+use Rattle.words.specs.declared.Refusal.{Refusal}
+use Rattle.headed.specs.declared.Numbers.{Numbers}
+use Rattle.parted.specs.Successes.{ok_part_read}
+use Rattle.parted.specs.Successes.{ok_part_written}
 
 -- ---- what a text is laid into parts as
 
@@ -59,12 +60,12 @@ module _ (r : Reading) (reference : ℕ) (t : List ℕ) (k : ℕ) (out : List �
   pub sent-writable : PartWritable r reference t k (length out)
   sent-writable = go (part_answers r reference t k (length out)) refl a
     where
-      go : (x : PartWritten) → part_answers r reference t k (length out) ≡ x → part_number x ≡ 0 → PartWritable r reference t k (length out)
-      go (written.Done o c m d p) e z = write-accepted r reference t k (length out) o c m d p e
-      go (written.Refused q) e z = absurd (omega (arith, number-above-0 q))
+      go : (x : Result PartWritten Refusal) → part_answers r reference t k (length out) ≡ x → part_number x ≡ 0 → PartWritable r reference t k (length out)
+      go (Ok w) e z = write-accepted r reference t k (length out) w.octets w.count w.marked w.coding w.parts e
+      go (Err q) e z = absurd (omega (arith, number-above-0 q))
 
   answer : part_answers r reference t k (length out)
-      ≡ written.Done (length (octets_as r reference t k)) (count_as r reference t k) (is_marked (reading_parts r t)) (smallest ShortMessage r) (reading_parts r t)
+      ≡ ok_part_written (length (octets_as r reference t k)) (count_as r reference t k) (is_marked (reading_parts r t)) (smallest ShortMessage r) (reading_parts r t)
   answer = (write-accepts r reference t k out sent-writable).0
 
   pub sent-octets : sent_part r reference t k out ≡ octets_as r reference t k
@@ -202,8 +203,8 @@ module _ (r : Reading) (reference : ℕ) (t : List ℕ) (k : ℕ) (w : PartsWrit
         fits = subst (λ (l : List ℕ). length l ≤ length out) (sym held) room;
       } in (
         a.0
-            ∙ ap₂ (λ (l : List ℕ) (x : Reading). read.Done (length l) x (marked_numbers marked octets)) held same
-            ∙ ap (read.Done (length (shown_as ucs2 (content_as r t k))) r) (part-numbers ucs2 reference (reading_parts r t) (reading_content r t) k),
+            ∙ ap₂ (λ (l : List ℕ) (x : Reading). ok_part_read (length l) x (marked_numbers marked octets)) held same
+            ∙ ap (ok_part_read (length (shown_as ucs2 (content_as r t k))) r) (part-numbers ucs2 reference (reading_parts r t) (reading_content r t) k),
         a.1 ∙ ap (λ (l : List ℕ). laid l out) held,
       )
 
@@ -211,7 +212,7 @@ module _ (r : Reading) (reference : ℕ) (t : List ℕ) (k : ℕ) (out : List �
   pub part-back : ComesPart (sent_coding r reference t k out) (sent_mark r reference t k out) (sent_count r reference t k out) (sent_part r reference t k out) r
       (numbers_as r reference t k) (shown_as (is_ucs2 r.alphabet) (content_as r t k))
   part-back =
-      let c : Concatenation = numbers_as r reference t k in
+      let c : Option Numbers = numbers_as r reference t k in
       let text : List ℕ = shown_as (is_ucs2 r.alphabet) (content_as r t k) in
       let m : Bool = is_marked (reading_parts r t) in
       subst (λ (d : ℕ). ComesPart d (sent_mark r reference t k out) (sent_count r reference t k out) (sent_part r reference t k out) r c text) (sym (sent-coding r reference t k out a))
@@ -221,14 +222,14 @@ module _ (r : Reading) (reference : ℕ) (t : List ℕ) (k : ℕ) (out : List �
       (comes r reference t k (sent-writable r reference t k out a).writable))))
 
   pub lone-back : sent_mark r reference t k out ≡ false
-      → ComesPart (sent_coding r reference t k out) (sent_mark r reference t k out) (sent_count r reference t k out) (sent_part r reference t k out) r Absent t
+      → ComesPart (sent_coding r reference t k out) (sent_mark r reference t k out) (sent_count r reference t k out) (sent_part r reference t k out) r None t
   lone-back m =
       let v = sent-writable r reference t k out a in
       let none : is_marked (reading_parts r t) ≡ false = sym (sent-mark r reference t k out a) ∙ m in
       let text : shown_as (is_ucs2 r.alphabet) (content_as r t k) ≡ t = ap (shown_as (is_ucs2 r.alphabet)) (lone-whole r reference t k (length out) v none) ∙ content-text (is_ucs2 r.alphabet) t v.writable.codable in
-      subst (λ (l : List ℕ). ComesPart (sent_coding r reference t k out) (sent_mark r reference t k out) (sent_count r reference t k out) (sent_part r reference t k out) r Absent l) text
-      (subst (λ (c : Concatenation). ComesPart (sent_coding r reference t k out) (sent_mark r reference t k out) (sent_count r reference t k out) (sent_part r reference t k out) r c
+      subst (λ (l : List ℕ). ComesPart (sent_coding r reference t k out) (sent_mark r reference t k out) (sent_count r reference t k out) (sent_part r reference t k out) r None l) text
+      (subst (λ (c : Option Numbers). ComesPart (sent_coding r reference t k out) (sent_mark r reference t k out) (sent_count r reference t k out) (sent_part r reference t k out) r c
       (shown_as (is_ucs2 r.alphabet) (content_as r t k))) (unnumbered none) part-back)
     where
-      unnumbered : is_marked (reading_parts r t) ≡ false → numbers_as r reference t k ≡ Absent
+      unnumbered : is_marked (reading_parts r t) ≡ false → numbers_as r reference t k ≡ None
       unnumbered e = rw e

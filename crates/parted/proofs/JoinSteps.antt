@@ -28,7 +28,6 @@ use lib.Seq.{take_all, take-take, drop_at, drop-cons, take-add, drop-drop, drop-
 use Rattle.words.specs.declared.Service.TheVariants.{ShortMessage}
 use Rattle.words.specs.declared.Refusal.{Refusal}
 use Rattle.words.specs.declared.Refusal.TheVariants.{WrongLength, WrongHeader, WrongPages, NoRoom}
-use Rattle.words.specs.declared.Filled.TheVariants as filled
 use Rattle.words.specs.Judging.{Verdict, refused, accepted, when, verdict, settle}
 use Rattle.words.proofs.Judging.{verdict-refused-first, verdict-accepted-first, accepted-rule}
 use Rattle.lists.specs.Lists.{first_wide, laid}
@@ -41,8 +40,6 @@ use Rattle.letters.specs.Tables.{escape}
 use Rattle.letters.specs.Reading.{text_of, read_as, text_answers, text_leaves, text_rules as shown_rules}
 use Rattle.letters.proofs.Septets.{read-most}
 use Rattle.coding.specs.declared.Reading.{Reading}
-use Rattle.coding.specs.declared.Held.TheVariants as held
-use Rattle.coding.specs.declared.OctetRead.TheVariants as octet-read
 use Rattle.coding.specs.OctetRead.{octet_reads, read_under}
 use Rattle.coding.specs.Holding.{is_ucs2, holds_text}
 use Rattle.coding.proofs.Prefixed.{read-given}
@@ -56,13 +53,9 @@ use Rattle.stream.proofs.Calls.{array-length, array-all}
 use Rattle.stream.proofs.UnitOctets.{octet-units-length}
 use Rattle.demands.proofs.Steps.{leaves-agree, held_as, holds-text}
 use Rattle.demands.proofs.Septets.{cut_below}
-use Rattle.headed.specs.declared.Concatenation.{Concatenation}
-use Rattle.headed.specs.declared.Concatenation.TheVariants.{Absent, Present}
 use Rattle.headed.specs.Header.{Element, Elements, broken, whole, elements_up_to, elements_of, numbers_of, last_numbers, concatenation, header_size, header_body, numbers_in, header_numbers, right_header, septets_over}
 use Rattle.headed.proofs.Steps.{chosen, header-fits}
 use Rattle.parted.specs.declared.PartOrder.{PartOrder}
-use Rattle.parted.specs.declared.PartsJudged.TheVariants.{Right, Refused}
-use Rattle.parted.specs.declared.PartsJoined.TheVariants as joined
 use Rattle.parted.specs.Behind.{unpacked_behind}
 use Rattle.parted.specs.Read.{wrong_head, content_behind}
 use Rattle.parted.specs.Joined.{octets_asked, start_at, part_in, wrong_counts, wrong_heads, odd_parts, numbers_at, total_in, reference_in, total_at, number_at, wrong_parts, place_of, content_at, joined_from, joined_content, joined_text, parts_rules, join_rules, join_answers, join_leaves}
@@ -74,11 +67,15 @@ use Rattle.parted.proofs.Lent.{tail-laid}
 use Rattle.parted.proofs.Orders.{right-read-once}
 use Rattle.parted.proofs.OrderSteps.{count_most, part-within, part-whole, start-most, head-there, head_at, start-entry, order-refused, order-accepted, left-right}
 use Rattle.parted.proofs.OpenRuns.{open-some, text-append, settled-closed, whole-next, read_next, open_next}
+use Rattle.std.specs.Prelude.{Option, Ok, Err, Some, None}
+use Rattle.headed.specs.declared.Numbers.{Numbers}
+use Rattle.coding.specs.declared.Held.TheVariants as held
+use Rattle.parted.specs.Successes.{ok_parts_joined}
 
 -- ---- by what the coding octet is read as
 
 module _ (cs o out : List ℕ) where
-  pub join-octet : (coding : ℕ) (r : Reading) → octet-read.Done r ≡ octet_reads ShortMessage coding
+  pub join-octet : (coding : ℕ) (r : Reading) → Ok r ≡ octet_reads ShortMessage coding
       → (held_joins r cs o (length out) ≡ join_answers coding cs o (length out)) × (held_join_leaves r cs o out ≡ join_leaves coding cs o out)
   unfolding held_joins held_join_leaves join_answers join_leaves
   join-octet coding r e =
@@ -91,26 +88,26 @@ module _ (cs o out : List ℕ) where
   held-joins r ucs2 e =
       let v = held_first r ucs2 (λ x. parts_rules x cs o (length out)) e in
       let b = holds-text ShortMessage r ucs2 e in (
-        sym (ap₂ (λ (w : Verdict) (x : Bool). settle w joined.Refused (joined.Done (length (joined_text x cs o)) r (reference_in (numbers_at x cs o 0)) (length cs))) v b),
+        sym (ap₂ (λ (w : Verdict) (x : Bool). settle w Err (ok_parts_joined (length (joined_text x cs o)) r (reference_in (numbers_at x cs o 0)) (length cs))) v b),
         leaves-agree out v (ap (λ (x : Bool). joined_text x cs o) b),
       )
 
-  pub held_none : (r : Reading) (q : Refusal) → held.Refused q ≡ holds_text ShortMessage r
-      → (joined.Refused q ≡ held_joins r cs o (length out)) × (out ≡ held_join_leaves r cs o out)
+  pub held_none : (r : Reading) (q : Refusal) → Err q ≡ holds_text ShortMessage r
+      → (Err q ≡ held_joins r cs o (length out)) × (out ≡ held_join_leaves r cs o out)
   unfolding held_joins held_join_leaves join_rules
   held_none r q e =
       let v = held-stops r q (parts_rules (is_ucs2 r.alphabet) cs o (length out)) e in
       let x = joined_text (is_ucs2 r.alphabet) cs o in
-      (sym (ap (λ (w : Verdict). settle w joined.Refused (joined.Done (length x) r (reference_in (numbers_at (is_ucs2 r.alphabet) cs o 0)) (length cs))) v), leaves-agree {x = x} out v refl)
+      (sym (ap (λ (w : Verdict). settle w Err (ok_parts_joined (length x) r (reference_in (numbers_at (is_ucs2 r.alphabet) cs o 0)) (length cs))) v), leaves-agree {x = x} out v refl)
 
 -- ---- a total is an octet
 
 -- what was found, and what elements behind it say
-abbrev last_in : Concatenation → Elements → Concatenation
-last_in found broken = Absent
+abbrev last_in : Option Numbers → Elements → Option Numbers
+last_in found broken = None
 last_in found (whole es) = last_numbers found es
 
-small-elements : (m : ℕ) (o : List ℕ) → Below 256 o → (found : Concatenation) → total_in found < 256 → total_in (last_in found (elements_up_to m o)) < 256
+small-elements : (m : ℕ) (o : List ℕ) → Below 256 o → (found : Option Numbers) → total_in found < 256 → total_in (last_in found (elements_up_to m o)) < 256
 unfolding elements_up_to last_numbers
 small-elements zero [] b found h = h
 small-elements zero (i ∷ o) b found h = omega arith
@@ -125,22 +122,22 @@ small-elements (suc m) (i ∷ n ∷ o) b found h =
     here : Element
     here = record { identifier = i; octets = take n o }
 
-    chosen-small : (t : Bool) → total_in (cond t (Present (numbers_of here)) found) < 256
+    chosen-small : (t : Bool) → total_in (cond t (Some (numbers_of here)) found) < 256
     chosen-small true = below-take 256 o behind n 1
     chosen-small false = h
 
-    go : (t : Bool) (x : Elements) → ((f : Concatenation) → total_in f < 256 → total_in (last_in f x) < 256) → total_in (last_in found (chosen t here x)) < 256
+    go : (t : Bool) (x : Elements) → ((f : Option Numbers) → total_in f < 256 → total_in (last_in f x) < 256) → total_in (last_in found (chosen t here x)) < 256
     go true x rest = omega arith
     go false broken rest = omega arith
-    go false (whole es) rest = rest (cond (eqb i concatenation) (Present (numbers_of here)) found) (chosen-small (eqb i concatenation))
+    go false (whole es) rest = rest (cond (eqb i concatenation) (Some (numbers_of here)) found) (chosen-small (eqb i concatenation))
 
 total-small : (o : List ℕ) → Below 256 o → total_in (header_numbers o) < 256
 unfolding header_numbers header_body elements_of
 total-small o b =
-    subst (λ (c : Concatenation). total_in c < 256) (same (elements_of (header_body o)))
-    (small-elements (length (header_body o)) (header_body o) (below-take 256 (drop 1 o) (below-drop 256 o b 1) (get_or o 0 0)) Absent (omega arith))
+    subst (λ (c : Option Numbers). total_in c < 256) (same (elements_of (header_body o)))
+    (small-elements (length (header_body o)) (header_body o) (below-take 256 (drop 1 o) (below-drop 256 o b 1) (get_or o 0 0)) None (omega arith))
   where
-    same : (x : Elements) → last_in Absent x ≡ numbers_in x
+    same : (x : Elements) → last_in None x ≡ numbers_in x
     same broken = refl
     same (whole es) = refl
 
@@ -153,15 +150,15 @@ total-at ucs2 cs o b i =
 
 module _ (ucs2 : Bool) (cs o : List ℕ) (p : PartOrder) (e : p ≡ part_order_of ucs2 cs o) where
   -- what the order says of the rules
-  pub text-refused : (r : Reading) (out : List ℕ) (q : Refusal) → p.judged ≡ Refused q
-      → (joined.Refused q ≡ text_joins r ucs2 cs o (length out)) × (out ≡ text_join_leaves ucs2 cs o out)
+  pub text-refused : (r : Reading) (out : List ℕ) (q : Refusal) → p.judged ≡ Err q
+      → (Err q ≡ text_joins r ucs2 cs o (length out)) × (out ≡ text_join_leaves ucs2 cs o out)
   unfolding text_joins text_join_leaves order_rules parts_rules
   text-refused r out q d =
       let v : verdict (parts_rules ucs2 cs o (length out)) ≡ refused q =
       verdict-refused-first (order_rules ucs2 cs o) (when (ltb (length out) (length (joined_text ucs2 cs o))) NoRoom ∷ []) q (order-refused ucs2 cs o p e q d) in
-      (sym (ap (λ (w : Verdict). settle w joined.Refused (joined.Done (length (joined_text ucs2 cs o)) r (reference_in (numbers_at ucs2 cs o 0)) (length cs))) v), leaves-agree {x = joined_text ucs2 cs o} out v refl)
+      (sym (ap (λ (w : Verdict). settle w Err (ok_parts_joined (length (joined_text ucs2 cs o)) r (reference_in (numbers_at ucs2 cs o 0)) (length cs))) v), leaves-agree {x = joined_text ucs2 cs o} out v refl)
 
-  module _ (d : p.judged ≡ Right) where
+  module _ (d : p.judged ≡ (Ok tt)) where
     order-reference : p.reference ≡ reference_in (numbers_at ucs2 cs o 0)
     unfolding part_order_of
     order-reference = ap (λ (x : PartOrder). x.reference) e ∙ ap (λ (v : Verdict). settle v (λ q. 0) (reference_in (numbers_at ucs2 cs o 0))) (order-accepted ucs2 cs o p e d)
@@ -197,12 +194,12 @@ module _ (ucs2 : Bool) (cs o : List ℕ) (p : PartOrder) (e : p ≡ part_order_o
         verdict-accepted-first (order_rules ucs2 cs o) (when (ltb (length out) (length (joined_text ucs2 cs o))) NoRoom ∷ []) (order-accepted ucs2 cs o p e d) in (
           go (verdict (when (ltb (length out) (length (joined_text ucs2 cs o))) NoRoom ∷ []))
               ∙ sym
-              (ap₂ (λ (w : Verdict) (n : ℕ). settle w joined.Refused (joined.Done (length (joined_text ucs2 cs o)) r n (length cs))) v (sym order-reference)),
+              (ap₂ (λ (w : Verdict) (n : ℕ). settle w Err (ok_parts_joined (length (joined_text ucs2 cs o)) r n (length cs))) v (sym order-reference)),
           leaves-agree {x = joined_text ucs2 cs o} out v refl,
         )
       where
-        go : (v : Verdict) → joined_as r p.reference (length cs) (settle v filled.Refused (filled.Done (length (joined_text ucs2 cs o))))
-            ≡ settle v joined.Refused (joined.Done (length (joined_text ucs2 cs o)) r p.reference (length cs))
+        go : (v : Verdict) → joined_as r p.reference (length cs) (settle v Err (Ok (length (joined_text ucs2 cs o))))
+            ≡ settle v Err (ok_parts_joined (length (joined_text ucs2 cs o)) r p.reference (length cs))
         go (refused q) = refl
         go accepted = refl
 
@@ -630,18 +627,18 @@ text-before cs o places starts s room fits k h = omega (arith, read-room cs o k 
 -- ---- a run read
 
 module _ (s out : List ℕ) (narrow : Below 128 s) (room : length (text_of s) ≤ length out) where
-  run-passed : (text_answers s (text_of s) (length out) ≡ filled.Done (length (text_of s))) × (text_leaves s (text_of s) out ≡ laid (text_of s) out)
+  run-passed : (text_answers s (text_of s) (length out) ≡ Ok (length (text_of s))) × (text_leaves s (text_of s) out ≡ laid (text_of s) out)
   unfolding text_answers text_leaves shown_rules verdict
   run-passed =
       let low : length s ≤ first_wide s = omega (arith, place_none (leb 128) s (λ k l. lt-leb 128 (get_or s k 0) (narrow k))) in
       simp (le-ltb (first_wide s) (length s) low, le-ltb (length out) (length (text_of s)) room) (refl, refl)
 
-  pub run-read : (n : ℕ) (left : List ℕ) → filled.Done n ≡ text_answers s (text_of s) (length out) → left ≡ text_leaves s (text_of s) out → (n ≡ length (text_of s)) × (left ≡ laid (text_of s) out)
-  run-read n left e l = let same : filled.Done n ≡ filled.Done (length (text_of s)) = e ∙ run-passed.0 in (cc, l ∙ run-passed.1)
+  pub run-read : (n : ℕ) (left : List ℕ) → Ok n ≡ text_answers s (text_of s) (length out) → left ≡ text_leaves s (text_of s) out → (n ≡ length (text_of s)) × (left ≡ laid (text_of s) out)
+  run-read n left e l = let same : Ok n ≡ Ok (length (text_of s)) = e ∙ run-passed.0 in (cc, l ∙ run-passed.1)
 
-  pub run-unrefused : (q : Refusal) → filled.Refused q ≡ text_answers s (text_of s) (length out) → ⊥
+  pub run-unrefused : (q : Refusal) → Err q ≡ text_answers s (text_of s) (length out) → ⊥
   run-unrefused q e =
-      let other : filled.Refused q ≡ filled.Done (length (text_of s)) = e ∙ run-passed.0 in
+      let other : Err q ≡ Ok (length (text_of s)) = e ∙ run-passed.0 in
       let z : ◌≡◌ {A = ℕ} 0 1 = cc in
       omega arith
 
@@ -673,10 +670,10 @@ text-most true cs o = omega arith
 text-most false cs o = read-most false (joined_content false cs o)
 
 module _ (xs out : List ℕ) where
-  pub given-short : leb (length xs) (length out) ≡ false → (filled.Refused NoRoom ≡ given_answers xs (length out)) × (out ≡ given_leaves xs out)
+  pub given-short : leb (length xs) (length out) ≡ false → (Err NoRoom ≡ given_answers xs (length out)) × (out ≡ given_leaves xs out)
   unfolding given_answers given_leaves verdict
   given-short e = simp (lt-ltb (length out) (length xs) (leb-false (length xs) (length out) e)) (refl, refl)
 
-  pub given-fits : leb (length xs) (length out) ≡ true → (n : ℕ) (left : List ℕ) → n ≡ length xs → left ≡ laid xs out → (filled.Done n ≡ given_answers xs (length out)) × (left ≡ given_leaves xs out)
+  pub given-fits : leb (length xs) (length out) ≡ true → (n : ℕ) (left : List ℕ) → n ≡ length xs → left ≡ laid xs out → (Ok n ≡ given_answers xs (length out)) × (left ≡ given_leaves xs out)
   unfolding given_answers given_leaves verdict
-  given-fits e n left d l = simp (le-ltb (length out) (length xs) (leb-true (length xs) (length out) e)) (ap filled.Done d, l)
+  given-fits e n left d l = simp (le-ltb (length out) (length xs) (leb-true (length xs) (length out) e)) (ap Ok d, l)

@@ -2,7 +2,7 @@
 -- pass every rule in any order, so that they join into its text.
 -- Assumes nothing.
 --   join-accepts, join-accepted   join_parts accepts exactly where the parts are PartsJoinable
---   join_told, join-verdict, given_join   the verdict that an answer tells, which is that of the rules; what an accepting call answers
+--   verdict_of, join-verdict, given_join   the verdict that an answer tells, which is that of the rules; what an accepting call answers
 --   join-reads-once      what is joined is what was checked: each part is read once and none is left out
 --   parts_join           the parts of a text of several, in any order, join into the text
 --   join-back            those that write_parts sent
@@ -10,6 +10,7 @@
 --   join-any-order       those that are laid end to end in any order
 --   join-in-order        those that write_parts leaves, as it leaves them
 --   join-unique          parts join into one thing only
+use Rattle.words.proofs.Rules.{verdict_of}
 use mathlib.Core.Path.{◌≡◌, refl, ap, ap₂, ◌∙◌, sym, subst}
 use mathlib.Core.Bool.{Bool, true}
 use mathlib.Core.List.{List, [], map}
@@ -32,7 +33,6 @@ use Rattle.demands.proofs.Accepting.{text-accepts}
 use Rattle.demands.proofs.Demands.{take-laid}
 use Rattle.demands.proofs.Steps.{text-accepted}
 use Rattle.parted.specs.declared.PartsJoined.{PartsJoined}
-use Rattle.parted.specs.declared.PartsJoined.TheVariants as joined
 use Rattle.parted.specs.Parts.{is_marked}
 use Rattle.parted.specs.Written.{reading_parts, reading_content, octets_as, count_as, sizes_of_all}
 use Rattle.parted.specs.Read.{shown_as}
@@ -43,12 +43,11 @@ use Rattle.parted.proofs.Accepting.{coding-back}
 use Rattle.parted.proofs.Demands.{septets-content, content-text, sent-octets, sent-count}
 use Rattle.parted.proofs.All.{all-writable, all-octets, all-sizes, all-coding, all-total, all-at}
 use Rattle.parted.proofs.Orders.{right-read-once, order-right-counts, order-right-heads, order-even, order-right, order-numbers, order-content, by-other-name, ends-reordered, part-asked, in_order}
+use Rattle.std.specs.Prelude.{Result, Ok, Err}
+use Rattle.words.specs.declared.Refusal.{Refusal}
+use Rattle.parted.specs.Successes.{ok_parts_joined}
 
 -- ---- accepting
-
-abbrev pub join_told : PartsJoined → Verdict
-join_told (joined.Done units reading reference parts) = accepted
-join_told (joined.Refused q) = refused q
 
 module _ (coding : ℕ) (cs o : List ℕ) where
   abbrev heard : Reading
@@ -60,14 +59,14 @@ module _ (coding : ℕ) (cs o : List ℕ) where
   abbrev text : List ℕ
   text = joined_text (is_ucs2 (read_under ShortMessage coding).alphabet) cs o
 
-  abbrev pub given_join : PartsJoined
+  abbrev pub given_join : Result PartsJoined Refusal
   given_join =
-      joined.Done (length (joined_text (is_ucs2 (read_under ShortMessage coding).alphabet) cs o)) (read_under ShortMessage coding)
+      ok_parts_joined (length (joined_text (is_ucs2 (read_under ShortMessage coding).alphabet) cs o)) (read_under ShortMessage coding)
       (reference_in (numbers_at (is_ucs2 (read_under ShortMessage coding).alphabet) cs o 0)) (length cs)
 
-  pub join-verdict : (room : ℕ) (a : PartsJoined) → a ≡ join_answers coding cs o room → verdict (join_rules (read_under ShortMessage coding) cs o room) ≡ join_told a
+  pub join-verdict : (room : ℕ) (a : Result PartsJoined Refusal) → a ≡ join_answers coding cs o room → verdict (join_rules (read_under ShortMessage coding) cs o room) ≡ verdict_of a
   unfolding join_answers
-  join-verdict room a e = settle-told join_told joined.Refused given_join (λ q. refl) refl (verdict (join_rules heard cs o room)) a e
+  join-verdict room a e = settle-told verdict_of Err given_join (λ q. refl) refl (verdict (join_rules heard cs o room)) a e
 
   join-rules-accept : (room : ℕ) → PartsJoinable coding cs o room → verdict (join_rules heard cs o room) ≡ accepted
   unfolding join_rules parts_rules verdict
@@ -77,18 +76,18 @@ module _ (coding : ℕ) (cs o : List ℕ) where
 
   pub join-accepts : (out : List ℕ) → PartsJoinable coding cs o (length out)
       → (join_answers coding cs o (length out)
-      ≡ joined.Done (length (joined_text (is_ucs2 (read_under ShortMessage coding).alphabet) cs o)) (read_under ShortMessage coding)
+      ≡ ok_parts_joined (length (joined_text (is_ucs2 (read_under ShortMessage coding).alphabet) cs o)) (read_under ShortMessage coding)
       (reference_in (numbers_at (is_ucs2 (read_under ShortMessage coding).alphabet) cs o 0)) (length cs))
       × (join_leaves coding cs o out ≡ laid (joined_text (is_ucs2 (read_under ShortMessage coding).alphabet) cs o) out)
   unfolding join_answers join_leaves
   join-accepts out w =
       let v = join-rules-accept (length out) w in
-      (settle-given _ joined.Refused _ v, settle-given _ (λ q. out) _ v)
+      (settle-given _ Err _ v, settle-given _ (λ q. out) _ v)
 
-  pub join-accepted : (room units : ℕ) (r : Reading) (reference parts : ℕ) → join_answers coding cs o room ≡ joined.Done units r reference parts → PartsJoinable coding cs o room
+  pub join-accepted : (room units : ℕ) (r : Reading) (reference parts : ℕ) → join_answers coding cs o room ≡ ok_parts_joined units r reference parts → PartsJoinable coding cs o room
   unfolding join_rules parts_rules
   join-accepted room units r reference parts e =
-      let v = accepted-parts (text_rules ShortMessage heard) (parts_rules ucs2 cs o room) (join-verdict room (joined.Done units r reference parts) (sym e)) in
+      let v = accepted-parts (text_rules ShortMessage heard) (parts_rules ucs2 cs o room) (join-verdict room (ok_parts_joined units r reference parts) (sym e)) in
       let four = accepted-rule (wrong_counts ucs2 cs o) WrongLength _ v.1 in
       let twelve = accepted-rule (wrong_heads ucs2 cs o) WrongHeader _ four.1 in
       let odd = accepted-rule (odd_parts ucs2 cs o) WrongLength _ twelve.1 in
@@ -103,7 +102,7 @@ module _ (coding : ℕ) (cs o : List ℕ) where
         fits = ltb-false room (length text) seven.0;
       }
 
-  pub join-reads-once : (room units : ℕ) (r : Reading) (reference parts : ℕ) → join_answers coding cs o room ≡ joined.Done units r reference parts
+  pub join-reads-once : (room units : ℕ) (r : Reading) (reference parts : ℕ) → join_answers coding cs o room ≡ ok_parts_joined units r reference parts
       → ReadOnce (is_ucs2 (read_under ShortMessage coding).alphabet) cs o
   join-reads-once room units r reference parts e = (right-read-once ucs2 cs o (join-accepted room units r reference parts e).right).1
 
@@ -142,8 +141,8 @@ module _ (r : Reading) (reference : ℕ) (t : List ℕ) (w : PartsWritable r t) 
         fits = subst (λ (l : List ℕ). length l ≤ length out) (sym held) room;
       } in (
         a.0
-            ∙ ap₂ (λ (l : List ℕ) (q : Reading). joined.Done (length l) q (reference_in (numbers_at (is_ucs2 (read_under ShortMessage coding).alphabet) cs o 0)) (length cs)) held same
-            ∙ ap₂ (joined.Done (length t) r) numbers x.long,
+            ∙ ap₂ (λ (l : List ℕ) (q : Reading). ok_parts_joined (length l) q (reference_in (numbers_at (is_ucs2 (read_under ShortMessage coding).alphabet) cs o 0)) (length cs)) held same
+            ∙ ap₂ (ok_parts_joined (length t) r) numbers x.long,
         a.1 ∙ ap (λ (l : List ℕ). laid l out) held,
       )
 
@@ -212,6 +211,6 @@ join-unique coding cs o r s i j p q t u x y =
     let long : length out ≡ length t + length u = length-replicate (length t + length u) 0 in
     let m = x out (omega arith) in
     let n = y out (omega arith) in
-    let same : joined.Done (length t) r i p ≡ joined.Done (length u) s j q = sym m.0 ∙ n.0 in
+    let same : ok_parts_joined (length t) r i p ≡ ok_parts_joined (length u) s j q = sym m.0 ∙ n.0 in
     let size : length t ≡ length u = cc in
     ((cc), (cc), (cc), sym (take-laid t out) ∙ ap₂ take size (sym m.1 ∙ n.1) ∙ take-laid u out)

@@ -37,16 +37,15 @@ use Rattle.filling.specs.Numbered.{lacks, some_of, place_among, wrong_among}
 use Rattle.filling.proofs.Runs.{some-none, none-some, some-here, one-to-one-le}
 use Rattle.filling.proofs.Placing.{none-lacks, place-first, place-number, right-one-to-one, one-to-one-right}
 use Rattle.filling.proofs.Table.{Placing, Fine, belonging, wrong-foreign, placing-repeated}
-use Rattle.headed.specs.declared.Concatenation.{Concatenation}
-use Rattle.headed.specs.declared.Concatenation.TheVariants.{Absent, Present}
 use Rattle.headed.specs.Header.{header_size, right_header, septets_over}
 use Rattle.parted.specs.declared.PartOrder.{PartOrder}
-use Rattle.parted.specs.declared.PartsJudged.TheVariants.{Right, Refused}
 use Rattle.parted.specs.Read.{wrong_head, odd_behind}
 use Rattle.parted.specs.Joined.{octets_asked, all_asked, most_count, start_at, part_in, wrong_counts, wrong_heads, odd_parts, numbers_at, number_in, total_in, reference_in, of_one_message, number_at, total_at, alike, wrong_parts}
 use Rattle.parted.specs.Ordered.{order_rules, places_of, start_entry, starts_of, part_order_of, places_left, starts_left}
 use Rattle.parted.specs.InnerJoined.{heads_judged, refused_order}
 use Rattle.parted.proofs.Orders.{one-total}
+use Rattle.std.specs.Prelude.{Option, Ok, Err, Some, None}
+use Rattle.headed.specs.declared.Numbers.{Numbers}
 
 -- ---- a test of some elements of a list
 
@@ -217,7 +216,7 @@ module _ (ucs2 : Bool) (cs o : List ℕ) where
       go false d false s x = p.odd s
       go false d true s x = absurd (true≢false (sym (ap₂ (λ (a b : Bool). a && not b) s d) ∙ sym e ∙ x))
 
-  pub heads-wrong : (i : ℕ) → i < length cs → wrong_at i ≡ true → heads_judged ucs2 cs o ≡ Refused WrongHeader
+  pub heads-wrong : (i : ℕ) → i < length cs → wrong_at i ≡ true → heads_judged ucs2 cs o ≡ Err WrongHeader
   unfolding heads_judged wrong_heads verdict
   heads-wrong i h e = simp (some-here wrong_at 0 (length cs) i (omega arith) (omega arith) e)
 
@@ -226,11 +225,11 @@ module _ (ucs2 : Bool) (cs o : List ℕ) where
     unfolding wrong_heads
     heads-passed = some-none wrong_at 0 (length cs) (λ j low h. p.right j (omega arith))
 
-    pub heads-odd : even ≡ false → heads_judged ucs2 cs o ≡ Refused WrongLength
+    pub heads-odd : even ≡ false → heads_judged ucs2 cs o ≡ Err WrongLength
     unfolding heads_judged verdict
     heads-odd e = simp (heads-passed, p.odd e)
 
-    pub heads-right : even ≡ true → heads_judged ucs2 cs o ≡ Right
+    pub heads-right : even ≡ true → heads_judged ucs2 cs o ≡ (Ok tt)
     unfolding heads_judged odd_parts verdict
     heads-right e = simp (heads-passed, some-none odd_at 0 (length cs) (λ j low h. p.evens e j (omega arith)))
 
@@ -245,11 +244,11 @@ module _ (ucs2 : Bool) (cs o : List ℕ) where
     head-there = not-false _ (or_left (not (right_header (part_in ucs2 cs o i))) _ head_at)
 
   -- what the judgement tells
-  pub heads-told : Right ≡ heads_judged ucs2 cs o → (wrong_heads ucs2 cs o ≡ false) × (odd_parts ucs2 cs o ≡ false)
+  pub heads-told : (Ok tt) ≡ heads_judged ucs2 cs o → (wrong_heads ucs2 cs o ≡ false) × (odd_parts ucs2 cs o ≡ false)
   unfolding heads_judged verdict
   heads-told e = go (wrong_heads ucs2 cs o) refl (odd_parts ucs2 cs o) refl e
     where
-      go : (a : Bool) → wrong_heads ucs2 cs o ≡ a → (b : Bool) → odd_parts ucs2 cs o ≡ b → Right ≡ settle (verdict (when a WrongHeader ∷ when b WrongLength ∷ [])) Refused Right
+      go : (a : Bool) → wrong_heads ucs2 cs o ≡ a → (b : Bool) → odd_parts ucs2 cs o ≡ b → (Ok tt) ≡ settle (verdict (when a WrongHeader ∷ when b WrongLength ∷ [])) Err (Ok tt)
           → (wrong_heads ucs2 cs o ≡ false) × (odd_parts ucs2 cs o ≡ false)
       go false x false y d = (x, y)
       go true x b y d = let z : ◌≡◌ {A = ℕ} 0 1 = cc in absurd (omega arith)
@@ -259,11 +258,11 @@ module _ (ucs2 : Bool) (cs o : List ℕ) where
   unfolding part_order_of order_rules verdict
   order-misfit e = simp e
 
-  pub order-headless : (q : Refusal) → wrong_counts ucs2 cs o ≡ false → Refused q ≡ heads_judged ucs2 cs o → part_order_of ucs2 cs o ≡ refused_order q
+  pub order-headless : (q : Refusal) → wrong_counts ucs2 cs o ≡ false → Err q ≡ heads_judged ucs2 cs o → part_order_of ucs2 cs o ≡ refused_order q
   unfolding part_order_of order_rules heads_judged verdict
   order-headless q fits e = go (wrong_heads ucs2 cs o) refl (odd_parts ucs2 cs o) refl e
     where
-      go : (a : Bool) → wrong_heads ucs2 cs o ≡ a → (b : Bool) → odd_parts ucs2 cs o ≡ b → Refused q ≡ settle (verdict (when a WrongHeader ∷ when b WrongLength ∷ [])) Refused Right
+      go : (a : Bool) → wrong_heads ucs2 cs o ≡ a → (b : Bool) → odd_parts ucs2 cs o ≡ b → Err q ≡ settle (verdict (when a WrongHeader ∷ when b WrongLength ∷ [])) Err (Ok tt)
           → part_order_of ucs2 cs o ≡ refused_order q
       go true x b y d = let same : q ≡ WrongHeader = cc in simp (fits, x, same)
       go false x true y d = let same : q ≡ WrongLength = cc in simp (fits, x, y, same)
@@ -272,11 +271,11 @@ module _ (ucs2 : Bool) (cs o : List ℕ) where
 -- ---- which number each part has
 
 -- a header without the element gives the number 0, which no part has
-pub belongs-given : (a b : Concatenation)
+pub belongs-given : (a b : Option Numbers)
     → ((eqb (reference_in a) (reference_in b) && eqb (total_in a) (total_in b)) && not (lacks (total_in b) (number_in b))) ≡ (of_one_message a b && not (lacks (total_in b) (number_in b)))
-belongs-given (Present m) (Present n) = refl
-belongs-given a Absent = and-false (eqb (reference_in a) 0 && eqb (total_in a) 0) ∙ sym (and-false (of_one_message a Absent))
-belongs-given Absent (Present n) = go (eqb 0 n.total) refl
+belongs-given (Some m) (Some n) = refl
+belongs-given a None = and-false (eqb (reference_in a) 0 && eqb (total_in a) 0) ∙ sym (and-false (of_one_message a None))
+belongs-given None (Some n) = go (eqb 0 n.total) refl
   where
     none : (k : ℕ) → not (lacks 0 k) ≡ false
     none zero = refl
@@ -425,7 +424,7 @@ module _ (ucs2 : Bool) (cs o : List ℕ) where
       order-repeated h taken = wrong-among (placing-repeated p h taken)
 
       module _ (e : i ≡ length cs) (some : length cs ≡ 0 → ⊥) (many : length cs ≡ total_at ucs2 cs o 0) where
-        pub order-right : (reference : ℕ) → reference ≡ reference_in (numbers_at ucs2 cs o 0) → part_order_of ucs2 cs o ≡ record { judged = Right; reference = reference }
+        pub order-right : (reference : ℕ) → reference ≡ reference_in (numbers_at ucs2 cs o 0) → part_order_of ucs2 cs o ≡ record { judged = (Ok tt); reference = reference }
         unfolding part_order_of order_rules wrong_parts verdict
         order-right reference same =
             let right : wrong_among (number_at ucs2 cs o) (total_at ucs2 cs o) (alike ucs2 cs o) (length cs) ≡ false =
@@ -435,29 +434,29 @@ module _ (ucs2 : Bool) (cs o : List ℕ) where
 -- ---- what is left in the tables
 
 module _ (ucs2 : Bool) (cs o : List ℕ) (p : PartOrder) (e : p ≡ part_order_of ucs2 cs o) where
-  pub order-refused : (q : Refusal) → p.judged ≡ Refused q → verdict (order_rules ucs2 cs o) ≡ refused q
+  pub order-refused : (q : Refusal) → p.judged ≡ Err q → verdict (order_rules ucs2 cs o) ≡ refused q
   unfolding part_order_of
   order-refused q d = go (verdict (order_rules ucs2 cs o)) (sym d ∙ ap (λ (x : PartOrder). x.judged) e)
     where
-      go : (v : Verdict) → Refused q ≡ settle v Refused Right → v ≡ refused q
+      go : (v : Verdict) → Err q ≡ settle v Err (Ok tt) → v ≡ refused q
       go (refused x) s = let same : q ≡ x = cc in ap refused (sym same)
       go accepted s = let z : ◌≡◌ {A = ℕ} 0 1 = cc in absurd (omega arith)
 
-  pub order-accepted : p.judged ≡ Right → verdict (order_rules ucs2 cs o) ≡ accepted
+  pub order-accepted : p.judged ≡ (Ok tt) → verdict (order_rules ucs2 cs o) ≡ accepted
   unfolding part_order_of
   order-accepted d = go (verdict (order_rules ucs2 cs o)) (sym d ∙ ap (λ (x : PartOrder). x.judged) e)
     where
-      go : (v : Verdict) → Right ≡ settle v Refused Right → v ≡ accepted
+      go : (v : Verdict) → (Ok tt) ≡ settle v Err (Ok tt) → v ≡ accepted
       go (refused x) s = let z : ◌≡◌ {A = ℕ} 0 1 = cc in absurd (omega arith)
       go accepted s = refl
 
-  pub left-refused : (q : Refusal) → p.judged ≡ Refused q → (replicate 256 0 ≡ places_left ucs2 cs o) × (replicate 256 0 ≡ starts_left ucs2 cs o)
+  pub left-refused : (q : Refusal) → p.judged ≡ Err q → (replicate 256 0 ≡ places_left ucs2 cs o) × (replicate 256 0 ≡ starts_left ucs2 cs o)
   unfolding places_left starts_left
   left-refused q d =
       let v = sym (order-refused q d) in
       (ap (λ (w : Verdict). settle w (λ x. replicate 256 0) (places_of ucs2 cs o)) v, ap (λ (w : Verdict). settle w (λ x. replicate 256 0) (starts_of ucs2 cs)) v)
 
-  pub left-right : p.judged ≡ Right → (places_of ucs2 cs o ≡ places_left ucs2 cs o) × (starts_of ucs2 cs ≡ starts_left ucs2 cs o)
+  pub left-right : p.judged ≡ (Ok tt) → (places_of ucs2 cs o ≡ places_left ucs2 cs o) × (starts_of ucs2 cs ≡ starts_left ucs2 cs o)
   unfolding places_left starts_left
   left-right d =
       let v = sym (order-accepted d) in
@@ -465,5 +464,5 @@ module _ (ucs2 : Bool) (cs o : List ℕ) (p : PartOrder) (e : p ≡ part_order_o
 
 -- parts that are refused on the way, whatever is in the tables
 pub refused-here : (ucs2 : Bool) (cs o : List ℕ) (p : PartOrder) (q : Refusal) {X : Type 0} → p ≡ refused_order q → part_order_of ucs2 cs o ≡ refused_order q
-    → (p ≡ part_order_of ucs2 cs o) × (p.judged ≡ Right → X)
-refused-here ucs2 cs o p q e d = (e ∙ sym d, λ r. let z : Refused q ≡ Right = sym (ap (λ (x : PartOrder). x.judged) e) ∙ r in let n : ◌≡◌ {A = ℕ} 0 1 = cc in absurd (omega arith))
+    → (p ≡ part_order_of ucs2 cs o) × (p.judged ≡ (Ok tt) → X)
+refused-here ucs2 cs o p q e d = (e ∙ sym d, λ r. let z : Err q ≡ (Ok tt) = sym (ap (λ (x : PartOrder). x.judged) e) ∙ r in let n : ◌≡◌ {A = ℕ} 0 1 = cc in absurd (omega arith))

@@ -29,8 +29,6 @@ use Rattle.filling.specs.Numbered.{wrong_among}
 use Rattle.filling.proofs.Parts.{parts_all}
 use Rattle.filling.proofs.Runs.{some-none}
 use Rattle.filling.proofs.Placing.{right-one-to-one, one-to-one-right, numbered-one-to-one}
-use Rattle.headed.specs.declared.Concatenation.{Concatenation}
-use Rattle.headed.specs.declared.Concatenation.TheVariants.{Absent, Present}
 use Rattle.headed.specs.Header.{header_size, header_numbers}
 use Rattle.parted.specs.Parts.{room_behind, is_marked, mark_size, part_content, part_octets, part_count}
 use Rattle.parted.specs.Read.{head_size, wrong_head, odd_behind, content_behind, marked_numbers}
@@ -39,13 +37,15 @@ use Rattle.parted.specs.Joined.{octets_asked, all_asked, start_at, most_count, w
 use Rattle.parted.specs.Messages.{counts_of, Reordered, pieces_from, ReadOnce}
 use Rattle.parted.proofs.Parts.{part-fits, part_right, part-even, part-numbers, part-content}
 use Rattle.parted.proofs.All.{fits-most}
+use Rattle.std.specs.Prelude.{Option, Some, None}
+use Rattle.headed.specs.declared.Numbers.{Numbers}
 
 -- ---- parts that are right
 
-one-message-total : (a b : Concatenation) → of_one_message a b ≡ true → total_in a ≡ total_in b
-one-message-total (Present m) (Present n) e = eqb-true m.total n.total (and_right (eqb m.reference n.reference) (eqb m.total n.total) e)
-one-message-total (Present m) Absent e = absurd (true≢false (sym e))
-one-message-total Absent b e = absurd (true≢false (sym e))
+one-message-total : (a b : Option Numbers) → of_one_message a b ≡ true → total_in a ≡ total_in b
+one-message-total (Some m) (Some n) e = eqb-true m.total n.total (and_right (eqb m.reference n.reference) (eqb m.total n.total) e)
+one-message-total (Some m) None e = absurd (true≢false (sym e))
+one-message-total None b e = absurd (true≢false (sym e))
 
 module _ (ucs2 : Bool) (cs o : List ℕ) where
   pub one-total : (i : ℕ) → alike ucs2 cs o i ≡ true → total_at ucs2 cs o 0 ≡ total_at ucs2 cs o i
@@ -103,9 +103,9 @@ module _ (ucs2 : Bool) (reference total : ℕ) (s : List ℕ) where
     head-even k =
         subst (λ (m : Bool). odd_behind ucs2 (head_size m (part_octets ucs2 reference total s k)) (part_octets ucs2 reference total s k) ≡ false) several (part-even ucs2 reference total s k)
 
-    head-numbers : (k : ℕ) → header_numbers (part_octets ucs2 reference total s k) ≡ Present (record { reference = reference; total = total; number = k })
+    head-numbers : (k : ℕ) → header_numbers (part_octets ucs2 reference total s k) ≡ Some (record { reference = reference; total = total; number = k })
     head-numbers k =
-        subst (λ (m : Bool). marked_numbers m (part_octets ucs2 reference total s k) ≡ cond m (Present (record { reference = reference; total = total; number = k })) Absent) several (part-numbers ucs2 reference total s k)
+        subst (λ (m : Bool). marked_numbers m (part_octets ucs2 reference total s k) ≡ cond m (Some (record { reference = reference; total = total; number = k })) None) several (part-numbers ucs2 reference total s k)
 
     head-content : (k : ℕ) → (ucs2 ≡ false → Below 128 s)
         → content_behind ucs2 (header_size (part_octets ucs2 reference total s k)) (part_count ucs2 reference total s k) (part_octets ucs2 reference total s k) ≡ part_content ucs2 total s k
@@ -119,7 +119,7 @@ module _ (ucs2 : Bool) (reference total : ℕ) (s : List ℕ) where
         some-none (λ i. odd_behind ucs2 (header_size (part_in ucs2 cs o i)) (part_in ucs2 cs o i)) 0 (length cs)
         (λ i low h. ap (λ (p : List ℕ). odd_behind ucs2 (header_size p) p) (x.same i (within i (omega arith))) ∙ head-even (1 + x.from i))
 
-    pub order-numbers : (i : ℕ) → i < total → numbers_at ucs2 cs o i ≡ Present (record { reference = reference; total = total; number = 1 + x.from i })
+    pub order-numbers : (i : ℕ) → i < total → numbers_at ucs2 cs o i ≡ Some (record { reference = reference; total = total; number = 1 + x.from i })
     unfolding numbers_at
     order-numbers i h = ap header_numbers (x.same i h) ∙ head-numbers (1 + x.from i)
 
@@ -142,7 +142,7 @@ module _ (ucs2 : Bool) (reference total : ℕ) (s : List ℕ) where
         let place : x.to (k - 1) < total = x.to-within (k - 1) here in
         (x.to (k - 1), (omega (arith, x.long), omega (arith, order-number (x.to (k - 1)) place, x.from-to (k - 1) here)))
 
-    one-message : (k l : ℕ) → of_one_message (Present (record { reference = reference; total = total; number = k })) (Present (record { reference = reference; total = total; number = l })) ≡ true
+    one-message : (k l : ℕ) → of_one_message (Some (record { reference = reference; total = total; number = k })) (Some (record { reference = reference; total = total; number = l })) ≡ true
     one-message k l = simp (eq-eqb reference reference refl, eq-eqb total total refl)
 
     pub order-read-once : ReadOnce ucs2 cs o

@@ -18,12 +18,12 @@ use Rattle.lists.proofs.Below.{Below, below-take, below-drop}
 use Rattle.filling.specs.Filling.{part_at}
 use Rattle.filling.proofs.Parts.{part-length}
 use Rattle.headed.specs.declared.Numbers.{Numbers}
-use Rattle.headed.specs.declared.Concatenation.TheVariants.{Absent, Present}
 use Rattle.headed.specs.Header.{header_size, right_header, header_numbers, concatenation_header}
 use Rattle.headed.proofs.Theorems.{concatenation-size, concatenation-length, concatenation-right, concatenation-numbers}
 use Rattle.parted.specs.Parts.{room_behind, is_marked, part_header, part_content, part_octets, part_count}
 use Rattle.parted.specs.Read.{count_fits, head_size, wrong_head, odd_behind, content_behind, marked_numbers}
 use Rattle.parted.proofs.Headed.{headed-fits, headed-size, headed-numbers, headed-content, headed-even, headed-head}
+use Rattle.std.specs.Prelude.{Some, None}
 
 module _ (reference total k : ℕ) where
   abbrev numbers : Numbers
@@ -51,7 +51,7 @@ module _ (reference total k : ℕ) where
 pub numbers-same : (reference total k reference' total' k' : ℕ) → is_marked total ≡ true → is_marked total' ≡ true
     → part_header reference total k ≡ part_header reference' total' k' → (reference ≡ reference') × (total ≡ total') × (k ≡ k')
 numbers-same reference total k reference' total' k' m n e =
-    let same : Present (numbers reference total k) ≡ Present (numbers reference' total' k') =
+    let same : Some (numbers reference total k) ≡ Some (numbers reference' total' k') =
     sym (concatenation-numbers (numbers reference total k))
     ∙ ap header_numbers (sym (header-marked reference total k m) ∙ e ∙ header-marked reference' total' k' n)
     ∙ concatenation-numbers (numbers reference' total' k') in
@@ -99,11 +99,11 @@ module _ (ucs2 : Bool) (reference total : ℕ) (s : List ℕ) (k : ℕ) where
   unfolding part_octets
   part-even = ap (λ (h : ℕ). odd_behind ucs2 h (part_octets ucs2 reference total s k)) part-head ∙ headed-even ucs2 header content
 
-  pub part-numbers : marked_numbers (is_marked total) (part_octets ucs2 reference total s k) ≡ cond (is_marked total) (Present (record { reference = reference; total = total; number = k })) Absent
+  pub part-numbers : marked_numbers (is_marked total) (part_octets ucs2 reference total s k) ≡ cond (is_marked total) (Some (record { reference = reference; total = total; number = k })) None
   unfolding part_octets
   part-numbers = go (is_marked total) refl
     where
-      go : (m : Bool) → is_marked total ≡ m → marked_numbers m (part_octets ucs2 reference total s k) ≡ cond m (Present (numbers reference total k)) Absent
+      go : (m : Bool) → is_marked total ≡ m → marked_numbers m (part_octets ucs2 reference total s k) ≡ cond m (Some (numbers reference total k)) None
       go true m = headed-numbers ucs2 header content (header-own reference total k m) ∙ ap header_numbers (header-marked reference total k m) ∙ concatenation-numbers (numbers reference total k)
       go false m = refl
 

@@ -9,6 +9,7 @@
 --   part-is, part-long   part k is what stands from k times the room on
 --   count-is, octets-is, octets-full  its count and its octets
 --   holding-over, holding-sum, holding-room, sized-over, sized-done, plan-units, plan-counted, plan-stopped   how the code counts
+use Rattle.words.proofs.Rules.{verdict_of}
 use mathlib.Core.Path.{◌≡◌, refl, sym, ap, ap₂, ◌∙◌, subst}
 use mathlib.Core.Bool.{Bool, true, false, cond}
 use mathlib.Core.List.{List, [], ◌∷◌}
@@ -25,7 +26,6 @@ use Rattle.words.specs.declared.Refusal.{Refusal}
 use Rattle.words.specs.declared.Refusal.TheVariants.{Unlisted, TooLong}
 use Rattle.words.specs.Judging.{when, Verdict, refused, accepted, verdict}
 use Rattle.words.proofs.Judging.{accepted-rule, settle-told, settle-given}
-use Rattle.letters.specs.declared.Measured.TheVariants.{Septets, Stopped}
 use Rattle.letters.specs.Writing.{septets_of, first_unlisted, measured}
 use Rattle.letters.specs.Sized.{content_of, not_codable}
 use Rattle.letters.specs.OwnCodes.{own_text}
@@ -38,8 +38,6 @@ use Rattle.filling.specs.Filling.{fewest, part_at}
 use Rattle.filling.proofs.Parts.{fewest-before, fewest-over, fewest-most, fewest-sum}
 use Rattle.headed.specs.Header.{septets_over}
 use Rattle.parted.specs.declared.Plan.{Plan}
-use Rattle.parted.specs.declared.Planned.{Planned}
-use Rattle.parted.specs.declared.Planned.TheVariants as planned
 use Rattle.parted.specs.Parts.{most_parts, room_behind, parts_holding, parts_of, is_marked, mark_size, part_header, part_content, headed_count, part_octets, part_count}
 use Rattle.parted.specs.Written.{size_rules}
 use Rattle.parted.specs.Cutting.{plan_of, planned_as, plan_room, part_length}
@@ -47,6 +45,7 @@ use Rattle.parted.specs.Inner.{sized_plan, plan_count, plan_octets}
 use Rattle.parted.proofs.Rooms.{septets-over-0, septets-over-6, alone-room, part_room, parts-alone, parts-marked, parts-some, parts-hold, marked-part-room}
 use Rattle.parted.proofs.Headed.{headed-length}
 use Rattle.parted.proofs.Parts.{header-long}
+use Rattle.std.specs.Prelude.{Result, Ok, Err}
 
 pub record Cut (p : Plan) (t : List ℕ) : Type 0 where
   pub codable : p.ucs2 ≡ false → Codable t
@@ -57,10 +56,6 @@ pub record Cut (p : Plan) (t : List ℕ) : Type 0 where
   pub most : p.total ≤ 255
 
 -- ---- what planning answers
-
-abbrev planned_told : Planned → Verdict
-planned_told (planned.Parts p) = accepted
-planned_told (planned.Refused q) = refused q
 
 listed : (ucs2 : Bool) (t : List ℕ) → not_codable ucs2 t ≡ false → ucs2 ≡ false → Codable t
 listed true t e f = let z : ◌≡◌ {A = ℕ} 0 1 = cc in absurd (omega arith)
@@ -81,17 +76,17 @@ module _ (ucs2 : Bool) (t : List ℕ) where
         most = ltb-false most_parts (parts_of ucs2 t) two.0;
       }
 
-  pub cut-told : (p : Plan) → planned.Parts p ≡ planned_as ucs2 t → (verdict (size_rules ucs2 t) ≡ accepted) × (p ≡ plan_of ucs2 t) × Cut p t
+  pub cut-told : (p : Plan) → Ok p ≡ planned_as ucs2 t → (verdict (size_rules ucs2 t) ≡ accepted) × (p ≡ plan_of ucs2 t) × Cut p t
   unfolding planned_as
   cut-told p e =
-      let v : verdict (size_rules ucs2 t) ≡ accepted = settle-told planned_told planned.Refused (planned.Parts (plan_of ucs2 t)) (λ q. refl) refl (verdict (size_rules ucs2 t)) (planned.Parts p) e in
-      let same : planned.Parts p ≡ planned.Parts (plan_of ucs2 t) = e ∙ settle-given (verdict (size_rules ucs2 t)) planned.Refused (planned.Parts (plan_of ucs2 t)) v in
+      let v : verdict (size_rules ucs2 t) ≡ accepted = settle-told verdict_of Err (Ok (plan_of ucs2 t)) (λ q. refl) refl (verdict (size_rules ucs2 t)) (Ok p) e in
+      let same : Ok p ≡ Ok (plan_of ucs2 t) = e ∙ settle-given (verdict (size_rules ucs2 t)) Err (Ok (plan_of ucs2 t)) v in
       let is : p ≡ plan_of ucs2 t = cc in
       (v, is, subst (λ (x : Plan). Cut x t) (sym is) (cut-plan v))
 
-  pub cut-refused : (q : Refusal) → planned.Refused q ≡ planned_as ucs2 t → verdict (size_rules ucs2 t) ≡ refused q
+  pub cut-refused : (q : Refusal) → Err q ≡ planned_as ucs2 t → verdict (size_rules ucs2 t) ≡ refused q
   unfolding planned_as
-  cut-refused q e = settle-told planned_told planned.Refused (planned.Parts (plan_of ucs2 t)) (λ q. refl) refl (verdict (size_rules ucs2 t)) (planned.Refused q) e
+  cut-refused q e = settle-told verdict_of Err (Ok (plan_of ucs2 t)) (λ q. refl) refl (verdict (size_rules ucs2 t)) (Err q) e
 
 -- ---- rooms
 
@@ -224,11 +219,11 @@ pub holding-room : (ucs2 : Bool) → (67 ≤ room_behind ucs2 6) × (room_behind
 holding-room true = (omega (arith, part_room.1), omega (arith, part_room.1))
 holding-room false = (omega (arith, part_room.0), omega (arith, part_room.0))
 
-pub sized-over : (ucs2 plain : Bool) (n : ℕ) → 255 < parts_holding ucs2 n → planned.Refused TooLong ≡ sized_plan ucs2 plain n
+pub sized-over : (ucs2 plain : Bool) (n : ℕ) → 255 < parts_holding ucs2 n → Err TooLong ≡ sized_plan ucs2 plain n
 unfolding sized_plan verdict
 sized-over ucs2 plain n h = simp (lt-ltb most_parts (parts_holding ucs2 n) h)
 
-pub sized-done : (ucs2 plain : Bool) (n : ℕ) → parts_holding ucs2 n ≤ 255 → planned.Parts (record { ucs2 = ucs2; plain = plain; total = parts_holding ucs2 n; content = n }) ≡ sized_plan ucs2 plain n
+pub sized-done : (ucs2 plain : Bool) (n : ℕ) → parts_holding ucs2 n ≤ 255 → Ok (record { ucs2 = ucs2; plain = plain; total = parts_holding ucs2 n; content = n }) ≡ sized_plan ucs2 plain n
 unfolding sized_plan verdict
 sized-done ucs2 plain n h = simp (le-ltb most_parts (parts_holding ucs2 n) h)
 
@@ -241,22 +236,22 @@ plan-listed : (t : List ℕ) → Codable t → sized_plan false (own_text t) (le
 unfolding sized_plan planned_as size_rules verdict
 plan-listed t c = simp (le-ltb (first_unlisted t) (length t) (omega (arith, c)))
 
-pub plan-counted : (t : List ℕ) (n : ℕ) → Septets n ≡ measured t → sized_plan false (own_text t) n ≡ planned_as false t
+pub plan-counted : (t : List ℕ) (n : ℕ) → Ok n ≡ measured t → sized_plan false (own_text t) n ≡ planned_as false t
 unfolding measured
 plan-counted t n e = go (ltb (first_unlisted t) (length t)) refl e
   where
-    go : (b : Bool) → ltb (first_unlisted t) (length t) ≡ b → Septets n ≡ cond b (Stopped (first_unlisted t)) (Septets (length (septets_of t)))
+    go : (b : Bool) → ltb (first_unlisted t) (length t) ≡ b → Ok n ≡ cond b (Err (first_unlisted t)) (Ok (length (septets_of t)))
         → sized_plan false (own_text t) n ≡ planned_as false t
     go true f d = let z : ◌≡◌ {A = ℕ} 0 1 = cc in absurd (omega arith)
     go false f d =
         let same : n ≡ length (septets_of t) = cc in
         ap (sized_plan false (own_text t)) same ∙ plan-listed t (codable-told t (ltb-false (first_unlisted t) (length t) f))
 
-pub plan-stopped : (t : List ℕ) (unit : ℕ) → Stopped unit ≡ measured t → planned.Refused (Unlisted unit) ≡ planned_as false t
+pub plan-stopped : (t : List ℕ) (unit : ℕ) → Err unit ≡ measured t → Err (Unlisted unit) ≡ planned_as false t
 unfolding measured planned_as size_rules verdict
 plan-stopped t unit e = go (ltb (first_unlisted t) (length t)) refl e
   where
-    go : (b : Bool) → ltb (first_unlisted t) (length t) ≡ b → Stopped unit ≡ cond b (Stopped (first_unlisted t)) (Septets (length (septets_of t))) → planned.Refused (Unlisted unit) ≡ planned_as false t
+    go : (b : Bool) → ltb (first_unlisted t) (length t) ≡ b → Err unit ≡ cond b (Err (first_unlisted t)) (Ok (length (septets_of t))) → Err (Unlisted unit) ≡ planned_as false t
     go true f d = let same : unit ≡ first_unlisted t = cc in simp (f, same)
     go false f d = let z : ◌≡◌ {A = ℕ} 0 1 = cc in absurd (omega arith)
 

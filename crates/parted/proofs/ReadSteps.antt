@@ -21,7 +21,6 @@ use lib.Seq.{drop-append-le, take_all, take_at}
 use Rattle.words.specs.declared.Service.TheVariants.{ShortMessage}
 use Rattle.words.specs.declared.Refusal.{Refusal}
 use Rattle.words.specs.declared.Refusal.TheVariants.{WrongLength, WrongHeader, NoRoom}
-use Rattle.words.specs.declared.Filled.TheVariants as filled
 use Rattle.words.specs.Judging.{Rule, Verdict, refused, accepted, verdict, settle}
 use Rattle.words.proofs.Judging.{verdict-refused-first, verdict-accepted-first}
 use Rattle.lists.specs.Lists.{first_wide, laid}
@@ -31,8 +30,6 @@ use Rattle.lists.proofs.Tests.{and_left}
 use Rattle.lists.proofs.Places.{place_none}
 use Rattle.lists.proofs.Laid.{laid-length}
 use Rattle.coding.specs.declared.Reading.{Reading}
-use Rattle.coding.specs.declared.Held.TheVariants as held
-use Rattle.coding.specs.declared.OctetRead.TheVariants as octet-read
 use Rattle.coding.specs.OctetRead.{octet_rules, octet_reads, read_under}
 use Rattle.coding.specs.Holding.{is_ucs2, text_rules, holds_text}
 use Rattle.coding.proofs.Prefixed.{read-given}
@@ -44,15 +41,16 @@ use Rattle.stream.proofs.Stream.{unpacked-length}
 use Rattle.stream.proofs.UnitOctets.{octet-units-length}
 use Rattle.demands.proofs.Steps.{held-verdict, leaves-agree, held_as, told_text, holds-text}
 use Rattle.demands.proofs.Septets.{cut_below}
-use Rattle.headed.specs.declared.Concatenation.{Concatenation}
-use Rattle.headed.specs.declared.Concatenation.TheVariants.{Absent}
 use Rattle.headed.specs.Header.{header_size, right_header, header_numbers, septets_over}
-use Rattle.parted.specs.declared.PartRead.TheVariants as part
-use Rattle.parted.specs.declared.TextRead.TheVariants as text
 use Rattle.parted.specs.Behind.{unpacked_behind}
 use Rattle.parted.specs.Read.{count_fits, head_size, wrong_head, odd_behind, content_behind, text_behind, marked_numbers, behind_rules, part_read_rules, part_reads, part_read_leaves}
 use Rattle.parted.specs.Inner.{held_reads, held_read_leaves, behind_reads, behind_read_leaves, tail_rules, tail_reads, tail_leaves, with_reading, with_numbers}
 use Rattle.parted.proofs.Behind.{unpacked-behind}
+use Rattle.std.specs.Prelude.{Option, Ok, Err, None}
+use Rattle.headed.specs.declared.Numbers.{Numbers}
+use Rattle.coding.specs.declared.Held.TheVariants as held
+use Rattle.parted.specs.Successes.{ok_text_read}
+use Rattle.parted.specs.Successes.{ok_part_read}
 
 -- ---- by what the coding octet is read as
 
@@ -62,23 +60,23 @@ held_first r ucs2 rules e =
     verdict-accepted-first (text_rules ShortMessage r) (rules (is_ucs2 r.alphabet)) (held-verdict ShortMessage r (held_as ucs2) e ∙ told_text ucs2)
     ∙ ap (λ (x : Bool). verdict (rules x)) (holds-text ShortMessage r ucs2 e)
 
-pub held-stops : (r : Reading) (q : Refusal) (rules : List Rule) → held.Refused q ≡ holds_text ShortMessage r → verdict (text_rules ShortMessage r ++ rules) ≡ refused q
-held-stops r q rules e = verdict-refused-first (text_rules ShortMessage r) rules q (held-verdict ShortMessage r (held.Refused q) e)
+pub held-stops : (r : Reading) (q : Refusal) (rules : List Rule) → Err q ≡ holds_text ShortMessage r → verdict (text_rules ShortMessage r ++ rules) ≡ refused q
+held-stops r q rules e = verdict-refused-first (text_rules ShortMessage r) rules q (held-verdict ShortMessage r (Err q) e)
 
-pub octet-reads : (coding : ℕ) (q : Refusal) → octet-read.Refused q ≡ octet_reads ShortMessage coding → ⊥
+pub octet-reads : (coding : ℕ) (q : Refusal) → Err q ≡ octet_reads ShortMessage coding → ⊥
 unfolding octet_reads octet_rules verdict
 octet-reads coding q e = let z : ◌≡◌ {A = ℕ} 0 1 = cc in omega arith
 
-read-settle : (v : Verdict) (n : ℕ) (r : Reading) (c : Concatenation) → with_reading r (settle v text.Refused (text.Done n c)) ≡ settle v part.Refused (part.Done n r c)
+read-settle : (v : Verdict) (n : ℕ) (r : Reading) (c : Option Numbers) → with_reading r (settle v Err (ok_text_read n c)) ≡ settle v Err (ok_part_read n r c)
 read-settle (refused q) n r c = refl
 read-settle accepted n r c = refl
 
-numbers-settle : (v : Verdict) (n : ℕ) (c : Concatenation) → with_numbers c (settle v filled.Refused (filled.Done n)) ≡ settle v text.Refused (text.Done n c)
+numbers-settle : (v : Verdict) (n : ℕ) (c : Option Numbers) → with_numbers c (settle v Err (Ok n)) ≡ settle v Err (ok_text_read n c)
 numbers-settle (refused q) n c = refl
 numbers-settle accepted n c = refl
 
 module _ (marked : Bool) (count : ℕ) (o out : List ℕ) where
-  pub read-octet : (coding : ℕ) (r : Reading) → octet-read.Done r ≡ octet_reads ShortMessage coding
+  pub read-octet : (coding : ℕ) (r : Reading) → Ok r ≡ octet_reads ShortMessage coding
       → (held_reads r marked count o (length out) ≡ part_reads coding marked count o (length out)) × (held_read_leaves r marked count o out ≡ part_read_leaves coding marked count o out)
   unfolding held_reads held_read_leaves part_reads part_read_leaves
   read-octet coding r e =
@@ -92,23 +90,23 @@ module _ (marked : Bool) (count : ℕ) (o out : List ℕ) where
       let v = held_first r ucs2 (λ x. behind_rules x marked count o (length out)) e in
       let t = ap (λ (x : Bool). text_behind x (head_size marked o) count o) (holds-text ShortMessage r ucs2 e) in (
         read-settle (verdict (behind_rules ucs2 marked count o (length out))) (length (text_behind ucs2 (head_size marked o) count o)) r (marked_numbers marked o)
-            ∙ sym (ap₂ (λ (w : Verdict) (x : List ℕ). settle w part.Refused (part.Done (length x) r (marked_numbers marked o))) v t),
+            ∙ sym (ap₂ (λ (w : Verdict) (x : List ℕ). settle w Err (ok_part_read (length x) r (marked_numbers marked o))) v t),
         leaves-agree out v t,
       )
 
-  pub held_none : (r : Reading) (q : Refusal) → held.Refused q ≡ holds_text ShortMessage r
-      → (part.Refused q ≡ held_reads r marked count o (length out)) × (out ≡ held_read_leaves r marked count o out)
+  pub held_none : (r : Reading) (q : Refusal) → Err q ≡ holds_text ShortMessage r
+      → (Err q ≡ held_reads r marked count o (length out)) × (out ≡ held_read_leaves r marked count o out)
   unfolding held_reads held_read_leaves part_read_rules
   held_none r q e =
       let v = held-stops r q (behind_rules (is_ucs2 r.alphabet) marked count o (length out)) e in
       let x = text_behind (is_ucs2 r.alphabet) (head_size marked o) count o in
-      (sym (ap (λ (w : Verdict). settle w part.Refused (part.Done (length x) r (marked_numbers marked o))) v), leaves-agree {x = x} out v refl)
+      (sym (ap (λ (w : Verdict). settle w Err (ok_part_read (length x) r (marked_numbers marked o))) v), leaves-agree {x = x} out v refl)
 
 -- ---- by its length, its mark and its header
 
 module _ (ucs2 marked : Bool) (count : ℕ) (o out : List ℕ) where
   pub behind-misfit : count_fits ucs2 (length o) count ≡ false
-      → (text.Refused WrongLength ≡ behind_reads ucs2 marked count o (length out)) × (out ≡ behind_read_leaves ucs2 marked count o out)
+      → (Err WrongLength ≡ behind_reads ucs2 marked count o (length out)) × (out ≡ behind_read_leaves ucs2 marked count o out)
   unfolding behind_reads behind_read_leaves behind_rules verdict
   behind-misfit h = simp h (refl, refl)
 
@@ -120,12 +118,12 @@ module _ (ucs2 marked : Bool) (count : ℕ) (o out : List ℕ) where
   tail-left fits right =
       let v : verdict (behind_rules ucs2 marked count o (length out)) ≡ verdict (tail_rules ucs2 (head_size marked o) count o (length out)) = simp (fits, right) in (
         numbers-settle (verdict (tail_rules ucs2 (head_size marked o) count o (length out))) (length (text_behind ucs2 (head_size marked o) count o)) (marked_numbers marked o)
-            ∙ sym (ap (λ (w : Verdict). settle w text.Refused (text.Done (length (text_behind ucs2 (head_size marked o) count o)) (marked_numbers marked o))) v),
+            ∙ sym (ap (λ (w : Verdict). settle w Err (ok_text_read (length (text_behind ucs2 (head_size marked o) count o)) (marked_numbers marked o))) v),
         leaves-agree {x = text_behind ucs2 (head_size marked o) count o} out v refl,
       )
 
   pub behind-alone : count_fits ucs2 (length o) count ≡ true → marked ≡ false
-      → (with_numbers Absent (tail_reads ucs2 0 count o (length out)) ≡ behind_reads ucs2 marked count o (length out)) × (tail_leaves ucs2 0 count o out ≡ behind_read_leaves ucs2 marked count o out)
+      → (with_numbers None (tail_reads ucs2 0 count o (length out)) ≡ behind_reads ucs2 marked count o (length out)) × (tail_leaves ucs2 0 count o out ≡ behind_read_leaves ucs2 marked count o out)
   behind-alone fits alone =
       let t = tail-left fits (ap (λ (m : Bool). m && wrong_head ucs2 count o) alone) in (
         sym (ap (λ (m : Bool). with_numbers (marked_numbers m o) (tail_reads ucs2 (head_size m o) count o (length out))) alone) ∙ t.0,
@@ -142,14 +140,14 @@ module _ (ucs2 marked : Bool) (count : ℕ) (o out : List ℕ) where
       )
 
   pub behind-headless : count_fits ucs2 (length o) count ≡ true → marked ≡ true → wrong_head ucs2 count o ≡ true
-      → (text.Refused WrongHeader ≡ behind_reads ucs2 marked count o (length out)) × (out ≡ behind_read_leaves ucs2 marked count o out)
+      → (Err WrongHeader ≡ behind_reads ucs2 marked count o (length out)) × (out ≡ behind_read_leaves ucs2 marked count o out)
   unfolding behind_reads behind_read_leaves behind_rules verdict
   behind-headless fits mark wrong = simp (fits, mark, wrong) (refl, refl)
 
 -- ---- UCS2
 
 module _ (size count : ℕ) (o out : List ℕ) where
-  pub units-odd : (length o - size) % 2 ≡ 1 → (filled.Refused WrongLength ≡ tail_reads true size count o (length out)) × (out ≡ tail_leaves true size count o out)
+  pub units-odd : (length o - size) % 2 ≡ 1 → (Err WrongLength ≡ tail_reads true size count o (length out)) × (out ≡ tail_leaves true size count o out)
   unfolding tail_reads tail_leaves tail_rules odd_behind verdict
   units-odd odd = simp (eq-eqb ((length o - size) % 2) 1 odd) (refl, refl)
 
@@ -157,12 +155,12 @@ module _ (size count : ℕ) (o out : List ℕ) where
   units-length = octet-units-length (drop size o) ∙ ap (λ (n : ℕ). n / 2) (length-drop size o)
 
   pub units-short : ((length o - size) % 2 ≡ 1 → ⊥) → length out < (length o - size) / 2
-      → (filled.Refused NoRoom ≡ tail_reads true size count o (length out)) × (out ≡ tail_leaves true size count o out)
+      → (Err NoRoom ≡ tail_reads true size count o (length out)) × (out ≡ tail_leaves true size count o out)
   unfolding tail_reads tail_leaves tail_rules odd_behind content_behind verdict
   units-short even short = simp (ne_eqb ((length o - size) % 2) 1 even, lt-ltb (length out) (length (octet_units (drop size o))) (omega (arith, units-length))) (refl, refl)
 
   pub units-tail : ((length o - size) % 2 ≡ 1 → ⊥) → (length o - size) / 2 ≤ length out → (p : List ℕ) → p ≡ drop size o
-      → (filled.Done (length (take (length out) (octet_units p))) ≡ tail_reads true size count o (length out)) × (laid (take (length out) (octet_units p)) out ≡ tail_leaves true size count o out)
+      → (Ok (length (take (length out) (octet_units p))) ≡ tail_reads true size count o (length out)) × (laid (take (length out) (octet_units p)) out ≡ tail_leaves true size count o out)
   unfolding tail_reads tail_leaves tail_rules odd_behind content_behind verdict
   units-tail even room p e =
       let all : take (length out) (octet_units p) ≡ octet_units (drop size o) =

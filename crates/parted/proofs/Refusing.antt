@@ -24,7 +24,7 @@ use Rattle.words.specs.declared.Refusal.TheVariants.{Prefixed, WrongLength, TooL
 use Rattle.words.specs.Refusals.{number_of, position_of}
 use Rattle.words.specs.Judging.{Rule, when, Verdict, refused, accepted, verdict, settle}
 use Rattle.words.proofs.Judging.{accepted-parts, accepted-both, accepted-rule, verdict-refused-first, verdict-accepted-first}
-use Rattle.words.proofs.Rules.{gives, given-not, given-iff, settle-refused-iff}
+use Rattle.words.proofs.Rules.{gives, given-not, given-iff, settle-refused-iff, verdict_of}
 use Rattle.coding.specs.declared.Reading.{Reading}
 use Rattle.coding.specs.Readings.{unmentioned}
 use Rattle.coding.specs.OctetRead.{octet_rules, read_under}
@@ -36,50 +36,47 @@ use Rattle.coding.proofs.Refuses.{exactly}
 use Rattle.letters.specs.Writing.{first_unlisted}
 use Rattle.letters.specs.Sized.{not_codable}
 use Rattle.demands.specs.Demands.{HoldsText}
-use Rattle.demands.specs.declared.MessageRead.TheVariants as message-read
-use Rattle.demands.specs.declared.MessageWritten.TheVariants as message-written
 use Rattle.demands.specs.MessageRead.{length_rules, read_rules, read_answers}
 use Rattle.demands.specs.MessageWritten.{size_rules as message_size_rules, write_rules, write_answers}
 use Rattle.demands.proofs.Accepting.{text-accepts}
 use Rattle.demands.proofs.Never.{read-short-never-3, write-short-never-3}
 use Rattle.demands.proofs.Steps.{text-accepted}
 use Rattle.filling.specs.Numbered.{lacks}
-use Rattle.headed.specs.declared.Concatenation.TheVariants.{Absent}
-use Rattle.parted.specs.declared.Counted.TheVariants as counted
 use Rattle.parted.specs.declared.PartWritten.{PartWritten}
-use Rattle.parted.specs.declared.PartWritten.TheVariants as written
 use Rattle.parted.specs.declared.PartRead.{PartRead}
-use Rattle.parted.specs.declared.PartRead.TheVariants as read
 use Rattle.parted.specs.Parts.{most_parts, is_marked}
 use Rattle.parted.specs.Written.{reading_parts, octets_as, count_as, size_rules, count_rules, count_answers, part_rules, part_answers, part_leaves}
 use Rattle.parted.specs.Read.{count_fits, head_size, wrong_head, odd_behind, text_behind, marked_numbers, behind_rules, part_read_rules, part_reads, part_read_leaves}
 use Rattle.parted.specs.Reports.{part_number, part_position, part_written, part_travels, part_marked, part_coding, part_parts, read_number, read_position, read_written, read_reading, read_numbers}
 use Rattle.parted.specs.Messages.{ReadingWritable, PartsWritable}
-use Rattle.parted.proofs.Accepting.{counted_told, written_told, read_told, count-verdict, write-verdict, read-verdict, reading-accepts, reading-accepted, rules-accept, rules-accepted}
+use Rattle.parted.proofs.Accepting.{count-verdict, write-verdict, read-verdict, reading-accepts, reading-accepted, rules-accept, rules-accepted}
+use Rattle.std.specs.Prelude.{Result, Ok, Err, None}
+use Rattle.parted.specs.Successes.{ok_part_read}
+use Rattle.parted.specs.Successes.{ok_part_written}
 
 -- ---- which refusal, exactly when
 
-pub count-refuses-iff : (r : Reading) (t : List ℕ) (q : Refusal) → (count_answers r t ≡ counted.Refused q) ↔ GivenBy (count_rules r t) q
+pub count-refuses-iff : (r : Reading) (t : List ℕ) (q : Refusal) → (count_answers r t ≡ Err q) ↔ GivenBy (count_rules r t) q
 unfolding count_answers
-count-refuses-iff r t q = exactly counted_told counted.Refused (counted.Parts (reading_parts r t)) (λ p. refl) refl (count_rules r t) q
+count-refuses-iff r t q = exactly verdict_of Err (Ok (reading_parts r t)) (λ p. refl) refl (count_rules r t) q
 
 -- what write_part and read_part give where no rule refuses
-abbrev given_part : Reading → ℕ → List ℕ → ℕ → PartWritten
+abbrev given_part : Reading → ℕ → List ℕ → ℕ → Result PartWritten Refusal
 given_part r reference t k =
-    written.Done (length (octets_as r reference t k)) (count_as r reference t k) (is_marked (reading_parts r t)) (smallest ShortMessage r) (reading_parts r t)
+    ok_part_written (length (octets_as r reference t k)) (count_as r reference t k) (is_marked (reading_parts r t)) (smallest ShortMessage r) (reading_parts r t)
 
-abbrev given_read : ℕ → Bool → ℕ → List ℕ → PartRead
+abbrev given_read : ℕ → Bool → ℕ → List ℕ → Result PartRead Refusal
 given_read coding marked count o =
-    read.Done (length (text_behind (is_ucs2 (read_under ShortMessage coding).alphabet) (head_size marked o) count o)) (read_under ShortMessage coding) (marked_numbers marked o)
+    ok_part_read (length (text_behind (is_ucs2 (read_under ShortMessage coding).alphabet) (head_size marked o) count o)) (read_under ShortMessage coding) (marked_numbers marked o)
 
-pub write-refuses-iff : (r : Reading) (reference : ℕ) (t : List ℕ) (k room : ℕ) (q : Refusal) → (part_answers r reference t k room ≡ written.Refused q) ↔ GivenBy (part_rules r reference t k room) q
+pub write-refuses-iff : (r : Reading) (reference : ℕ) (t : List ℕ) (k room : ℕ) (q : Refusal) → (part_answers r reference t k room ≡ Err q) ↔ GivenBy (part_rules r reference t k room) q
 unfolding part_answers
-write-refuses-iff r reference t k room q = exactly written_told written.Refused (given_part r reference t k) (λ p. refl) refl (part_rules r reference t k room) q
+write-refuses-iff r reference t k room q = exactly verdict_of Err (given_part r reference t k) (λ p. refl) refl (part_rules r reference t k room) q
 
 pub read-refuses-iff : (coding : ℕ) (marked : Bool) (count : ℕ) (o : List ℕ) (room : ℕ) (q : Refusal)
-    → (part_reads coding marked count o room ≡ read.Refused q) ↔ GivenBy (part_read_rules (read_under ShortMessage coding) marked count o room) q
+    → (part_reads coding marked count o room ≡ Err q) ↔ GivenBy (part_read_rules (read_under ShortMessage coding) marked count o room) q
 unfolding part_reads
-read-refuses-iff coding marked count o room q = exactly read_told read.Refused (given_read coding marked count o) (λ p. refl) refl (part_read_rules (read_under ShortMessage coding) marked count o room) q
+read-refuses-iff coding marked count o room q = exactly verdict_of Err (given_read coding marked count o) (λ p. refl) refl (part_read_rules (read_under ShortMessage coding) marked count o room) q
 
 -- ---- what is new of them, in plain words
 
@@ -93,9 +90,9 @@ module _ (r : Reading) (reference : ℕ) (t : List ℕ) (k room : ℕ) where
   abbrev short : Rule
   short = when (ltb room (length (octets_as r reference t k))) NoRoom
 
-  told : (q : Refusal) → (part_answers r reference t k room ≡ written.Refused q) ↔ (verdict (part_rules r reference t k room) ≡ refused q)
+  told : (q : Refusal) → (part_answers r reference t k room ≡ Err q) ↔ (verdict (part_rules r reference t k room) ≡ refused q)
   unfolding part_answers
-  told q = settle-refused-iff written_told written.Refused (given_part r reference t k) (λ p. refl) refl (verdict (part_rules r reference t k room)) q
+  told q = settle-refused-iff verdict_of Err (given_part r reference t k) (λ p. refl) refl (verdict (part_rules r reference t k room)) q
 
   before-five : (verdict (coding_rules ShortMessage r ++ (text_rules ShortMessage r ++ six)) ≡ accepted) ↔ (ReadingWritable r × (not_codable (is_ucs2 r.alphabet) t ≡ false))
   unfolding verdict
@@ -110,7 +107,7 @@ module _ (r : Reading) (reference : ℕ) (t : List ℕ) (k room : ℕ) where
   )
 
   -- "over 255 parts is 5"
-  pub write-refuses-5-iff : (part_answers r reference t k room ≡ written.Refused TooLong) ↔ (ReadingWritable r × (not_codable (is_ucs2 r.alphabet) t ≡ false) × (most_parts < reading_parts r t))
+  pub write-refuses-5-iff : (part_answers r reference t k room ≡ Err TooLong) ↔ (ReadingWritable r × (not_codable (is_ucs2 r.alphabet) t ≡ false) × (most_parts < reading_parts r t))
   unfolding part_rules count_rules size_rules coding_rules alone_rules text_rules gives
   write-refuses-5-iff =
       let iff = both_ways (told TooLong)
@@ -120,7 +117,7 @@ module _ (r : Reading) (reference : ℕ) (t : List ℕ) (k room : ℕ) where
       )
 
   -- a part that the message lacks
-  pub write-refuses-10-iff : (part_answers r reference t k room ≡ written.Refused WrongPages) ↔ (PartsWritable r t × (lacks (reading_parts r t) k ≡ true))
+  pub write-refuses-10-iff : (part_answers r reference t k room ≡ Err WrongPages) ↔ (PartsWritable r t × (lacks (reading_parts r t) k ≡ true))
   unfolding part_rules count_rules size_rules coding_rules alone_rules text_rules gives
   write-refuses-10-iff =
       let iff = both_ways (told WrongPages) (given-iff (count_rules r t) (lacks (reading_parts r t) k) WrongPages (short ∷ []) refl refl) in
@@ -180,9 +177,9 @@ module _ (coding : ℕ) (marked : Bool) (count : ℕ) (o : List ℕ) (room : ℕ
   abbrev over : Bool
   over = ltb room (length (text_behind (is_ucs2 (read_under ShortMessage coding).alphabet) (head_size marked o) count o))
 
-  read-told : (q : Refusal) → (part_reads coding marked count o room ≡ read.Refused q) ↔ (verdict (part_read_rules heard marked count o room) ≡ refused q)
+  read-told : (q : Refusal) → (part_reads coding marked count o room ≡ Err q) ↔ (verdict (part_read_rules heard marked count o room) ≡ refused q)
   unfolding part_reads
-  read-told q = settle-refused-iff read_told read.Refused (given_read coding marked count o) (λ p. refl) refl (verdict (part_read_rules heard marked count o room)) q
+  read-told q = settle-refused-iff verdict_of Err (given_read coding marked count o) (λ p. refl) refl (verdict (part_read_rules heard marked count o room)) q
 
   abbrev four : List Rule
   four = when (not (count_fits ucs2 (length o) count)) WrongLength ∷ []
@@ -197,7 +194,7 @@ module _ (coding : ℕ) (marked : Bool) (count : ℕ) (o : List ℕ) (room : ℕ
   )
 
   -- "12, after 4, for a header longer than the octets or (in septets) than the count, or an element running past it or of wrong length"
-  pub read-refuses-12-iff : (part_reads coding marked count o room ≡ read.Refused WrongHeader)
+  pub read-refuses-12-iff : (part_reads coding marked count o room ≡ Err WrongHeader)
       ↔ (HoldsText heard × (count_fits ucs2 (length o) count ≡ true) × (marked ≡ true) × (wrong_head ucs2 count o ≡ true))
   unfolding part_read_rules behind_rules text_rules gives
   read-refuses-12-iff =
@@ -207,7 +204,7 @@ module _ (coding : ℕ) (marked : Bool) (count : ℕ) (o : List ℕ) (room : ℕ
       )
 
   -- "octets not of the length that the counts ask are 4"; "UCS2 evenness is judged behind the header, after 12"
-  pub read-refuses-4-iff : (part_reads coding marked count o room ≡ read.Refused WrongLength)
+  pub read-refuses-4-iff : (part_reads coding marked count o room ≡ Err WrongLength)
       ↔ (HoldsText heard × ((count_fits ucs2 (length o) count ≡ false) ⊎ ((count_fits ucs2 (length o) count ≡ true) × ((marked && wrong_head ucs2 count o) ≡ false) × (odd ≡ true))))
   unfolding part_read_rules behind_rules text_rules gives
   read-refuses-4-iff =
@@ -235,35 +232,35 @@ reading-never-3 : (r : Reading) → verdict (coding_rules ShortMessage r ++ text
 unfolding write_rules write_answers coding_rules alone_rules text_rules
 reading-never-3 r e =
     write-short-never-3 r [] 0
-    (refused-settles (verdict (write_rules ShortMessage r [] 0)) message-written.Refused _ Prefixed
+    (refused-settles (verdict (write_rules ShortMessage r [] 0)) Err _ Prefixed
     (verdict-refused-first (coding_rules ShortMessage r ++ text_rules ShortMessage r) (message_size_rules ShortMessage r [] 0) Prefixed e))
 
-pub count-never-3 : (r : Reading) (t : List ℕ) → count_answers r t ≡ counted.Refused Prefixed → ⊥
+pub count-never-3 : (r : Reading) (t : List ℕ) → count_answers r t ≡ Err Prefixed → ⊥
 unfolding count_rules size_rules coding_rules alone_rules text_rules gives
 count-never-3 r t e =
     reading-never-3 r
-    (in-front (coding_rules ShortMessage r ++ text_rules ShortMessage r) (size_rules (is_ucs2 r.alphabet) t) Prefixed refl (count-verdict r t (counted.Refused Prefixed) (sym e)))
+    (in-front (coding_rules ShortMessage r ++ text_rules ShortMessage r) (size_rules (is_ucs2 r.alphabet) t) Prefixed refl (count-verdict r t (Err Prefixed) (sym e)))
 
-pub write-never-3 : (r : Reading) (reference : ℕ) (t : List ℕ) (k room : ℕ) → part_answers r reference t k room ≡ written.Refused Prefixed → ⊥
+pub write-never-3 : (r : Reading) (reference : ℕ) (t : List ℕ) (k room : ℕ) → part_answers r reference t k room ≡ Err Prefixed → ⊥
 unfolding part_rules count_rules size_rules coding_rules alone_rules text_rules gives
 write-never-3 r reference t k room e =
     reading-never-3 r
     (in-front (coding_rules ShortMessage r ++ text_rules ShortMessage r)
     (size_rules (is_ucs2 r.alphabet) t ++ (when (lacks (reading_parts r t) k) WrongPages ∷ when (ltb room (length (octets_as r reference t k))) NoRoom ∷ [])) Prefixed refl
-    (write-verdict r reference t k room (written.Refused Prefixed) (sym e)))
+    (write-verdict r reference t k room (Err Prefixed) (sym e)))
 
-pub read-never-3 : (coding : ℕ) (marked : Bool) (count : ℕ) (o : List ℕ) (room : ℕ) → coding < 256 → part_reads coding marked count o room ≡ read.Refused Prefixed → ⊥
+pub read-never-3 : (coding : ℕ) (marked : Bool) (count : ℕ) (o : List ℕ) (room : ℕ) → coding < 256 → part_reads coding marked count o room ≡ Err Prefixed → ⊥
 unfolding part_read_rules behind_rules text_rules gives read_answers read_rules octet_rules
 read-never-3 coding marked count o room small e =
     let heard : Reading = read_under ShortMessage coding in
-    let v = in-front (text_rules ShortMessage heard) (behind_rules (is_ucs2 heard.alphabet) marked count o room) Prefixed refl (read-verdict coding marked count o room (read.Refused Prefixed) (sym e)) in
+    let v = in-front (text_rules ShortMessage heard) (behind_rules (is_ucs2 heard.alphabet) marked count o room) Prefixed refl (read-verdict coding marked count o room (Err Prefixed) (sym e)) in
     read-short-never-3 coding count o room small
-    (refused-settles (verdict (read_rules ShortMessage coding count o room)) message-read.Refused _ Prefixed
+    (refused-settles (verdict (read_rules ShortMessage coding count o room)) Err _ Prefixed
     (verdict-refused-first (text_rules ShortMessage heard) (length_rules ShortMessage heard count o room) Prefixed v))
 
 -- ---- what a refused call reports and leaves
 
-pub write-refuses : (r : Reading) (reference : ℕ) (t : List ℕ) (k : ℕ) (out : List ℕ) (q : Refusal) → part_answers r reference t k (length out) ≡ written.Refused q
+pub write-refuses : (r : Reading) (reference : ℕ) (t : List ℕ) (k : ℕ) (out : List ℕ) (q : Refusal) → part_answers r reference t k (length out) ≡ Err q
     → (part_number (part_answers r reference t k (length out)) ≡ number_of q)
     × (part_position (part_answers r reference t k (length out)) ≡ position_of q)
     × (part_written (part_answers r reference t k (length out)) ≡ 0)
@@ -281,15 +278,15 @@ write-refuses r reference t k out q e = (
   ap part_marked e,
   ap part_coding e,
   ap part_parts e,
-  refused-settles (verdict (part_rules r reference t k (length out))) (λ p. out) _ q (write-verdict r reference t k (length out) (written.Refused q) (sym e)),
+  refused-settles (verdict (part_rules r reference t k (length out))) (λ p. out) _ q (write-verdict r reference t k (length out) (Err q) (sym e)),
 )
 
-pub read-refuses : (coding : ℕ) (marked : Bool) (count : ℕ) (o out : List ℕ) (q : Refusal) → part_reads coding marked count o (length out) ≡ read.Refused q
+pub read-refuses : (coding : ℕ) (marked : Bool) (count : ℕ) (o out : List ℕ) (q : Refusal) → part_reads coding marked count o (length out) ≡ Err q
     → (read_number (part_reads coding marked count o (length out)) ≡ number_of q)
     × (read_position (part_reads coding marked count o (length out)) ≡ position_of q)
     × (read_written (part_reads coding marked count o (length out)) ≡ 0)
     × (read_reading (part_reads coding marked count o (length out)) ≡ unmentioned)
-    × (read_numbers (part_reads coding marked count o (length out)) ≡ Absent)
+    × (read_numbers (part_reads coding marked count o (length out)) ≡ None)
     × (part_read_leaves coding marked count o out ≡ out)
 unfolding part_read_leaves
 read-refuses coding marked count o out q e = (
@@ -299,5 +296,5 @@ read-refuses coding marked count o out q e = (
   ap read_reading e,
   ap read_numbers e,
   refused-settles (verdict (part_read_rules (read_under ShortMessage coding) marked count o (length out))) (λ p. out) _ q
-      (read-verdict coding marked count o (length out) (read.Refused q) (sym e)),
+      (read-verdict coding marked count o (length out) (Err q) (sym e)),
 )

@@ -22,7 +22,7 @@ use Rattle.words.specs.declared.Refusal.TheVariants.{Prefixed, WrongLength, NoRo
 use Rattle.words.specs.Refusals.{number_of, position_of}
 use Rattle.words.specs.Judging.{Rule, when, refused, accepted, verdict}
 use Rattle.words.proofs.Judging.{accepted-parts, accepted-both, accepted-rule, verdict-refused-first}
-use Rattle.words.proofs.Rules.{gives, given-iff, settle-refused-iff}
+use Rattle.words.proofs.Rules.{gives, given-iff, settle-refused-iff, verdict_of}
 use Rattle.coding.specs.declared.Reading.{Reading}
 use Rattle.coding.specs.Readings.{unmentioned}
 use Rattle.coding.specs.OctetRead.{read_under}
@@ -32,33 +32,30 @@ use Rattle.coding.proofs.Refuses.{exactly}
 use Rattle.demands.specs.Demands.{HoldsText}
 use Rattle.demands.proofs.Accepting.{text-accepts}
 use Rattle.demands.proofs.Steps.{text-accepted}
-use Rattle.parted.specs.declared.Counted.TheVariants as counted
-use Rattle.parted.specs.declared.PartRead.TheVariants as read
-use Rattle.parted.specs.declared.PartsWritten.TheVariants as written
-use Rattle.parted.specs.declared.PartsJoined.TheVariants as joined
 use Rattle.parted.specs.Written.{octets_of_all, sizes_of_all, count_rules, count_answers, all_rules, all_answers, all_leaves, sizes_leaves}
 use Rattle.parted.specs.Read.{behind_rules, part_read_rules, part_reads}
 use Rattle.parted.specs.Joined.{all_asked, wrong_counts, wrong_heads, odd_parts, wrong_parts, joined_text, parts_rules, join_rules, join_answers, join_leaves}
 use Rattle.parted.specs.Reports.{parts_number, parts_position, parts_written, parts_marked, parts_coding, parts_parts, join_number, join_position, join_written, join_reading, join_reference, join_parts}
 use Rattle.parted.proofs.Refusing.{both_ways, length-iff, in-front, refused-settles, count-never-3, read-never-3}
-use Rattle.parted.proofs.All.{all_told, given_all, all-verdict}
-use Rattle.parted.proofs.Joining.{join_told, given_join, join-verdict}
+use Rattle.parted.proofs.All.{given_all, all-verdict}
+use Rattle.parted.proofs.Joining.{given_join, join-verdict}
+use Rattle.std.specs.Prelude.{Err}
 
 -- ---- writing all parts
 
 module _ (r : Reading) (reference : ℕ) (t : List ℕ) where
-  pub all-refuses-iff : (room list : ℕ) (q : Refusal) → (all_answers r reference t room list ≡ written.Refused q) ↔ GivenBy (all_rules r reference t room list) q
+  pub all-refuses-iff : (room list : ℕ) (q : Refusal) → (all_answers r reference t room list ≡ Err q) ↔ GivenBy (all_rules r reference t room list) q
   unfolding all_answers
-  all-refuses-iff room list q = exactly all_told written.Refused (given_all r reference t) (λ p. refl) refl (all_rules r reference t room list) q
+  all-refuses-iff room list q = exactly verdict_of Err (given_all r reference t) (λ p. refl) refl (all_rules r reference t room list) q
 
-  pub all-never-3 : (room list : ℕ) → all_answers r reference t room list ≡ written.Refused Prefixed → ⊥
+  pub all-never-3 : (room list : ℕ) → all_answers r reference t room list ≡ Err Prefixed → ⊥
   unfolding all_rules count_answers gives
   all-never-3 room list e =
       let rest : List Rule = when (ltb room (length (octets_of_all r reference t)) || ltb list (length (sizes_of_all r reference t))) NoRoom ∷ [] in
-      let v = in-front (count_rules r t) rest Prefixed refl (all-verdict r reference t room list (written.Refused Prefixed) (sym e)) in
-      count-never-3 r t (refused-settles (verdict (count_rules r t)) counted.Refused _ Prefixed v)
+      let v = in-front (count_rules r t) rest Prefixed refl (all-verdict r reference t room list (Err Prefixed) (sym e)) in
+      count-never-3 r t (refused-settles (verdict (count_rules r t)) Err _ Prefixed v)
 
-  pub all-refuses : (out list : List ℕ) (q : Refusal) → all_answers r reference t (length out) (length list) ≡ written.Refused q
+  pub all-refuses : (out list : List ℕ) (q : Refusal) → all_answers r reference t (length out) (length list) ≡ Err q
       → (parts_number (all_answers r reference t (length out) (length list)) ≡ number_of q)
       × (parts_position (all_answers r reference t (length out) (length list)) ≡ position_of q)
       × (parts_written (all_answers r reference t (length out) (length list)) ≡ 0)
@@ -69,7 +66,7 @@ module _ (r : Reading) (reference : ℕ) (t : List ℕ) where
       × (sizes_leaves r reference t (length out) list ≡ list)
   unfolding all_leaves sizes_leaves
   all-refuses out list q e =
-      let v = all-verdict r reference t (length out) (length list) (written.Refused q) (sym e) in (
+      let v = all-verdict r reference t (length out) (length list) (Err q) (sym e) in (
         ap parts_number e,
         ap parts_position e,
         ap parts_written e,
@@ -83,9 +80,9 @@ module _ (r : Reading) (reference : ℕ) (t : List ℕ) where
 -- ---- joining
 
 pub join-refuses-iff : (coding : ℕ) (cs o : List ℕ) (room : ℕ) (q : Refusal)
-    → (join_answers coding cs o room ≡ joined.Refused q) ↔ GivenBy (join_rules (read_under ShortMessage coding) cs o room) q
+    → (join_answers coding cs o room ≡ Err q) ↔ GivenBy (join_rules (read_under ShortMessage coding) cs o room) q
 unfolding join_answers
-join-refuses-iff coding cs o room q = exactly join_told joined.Refused (given_join coding cs o) (λ p. refl) refl (join_rules (read_under ShortMessage coding) cs o room) q
+join-refuses-iff coding cs o room q = exactly verdict_of Err (given_join coding cs o) (λ p. refl) refl (join_rules (read_under ShortMessage coding) cs o room) q
 
 module _ (coding : ℕ) (cs o : List ℕ) (room : ℕ) where
   abbrev heard : Reading
@@ -97,9 +94,9 @@ module _ (coding : ℕ) (cs o : List ℕ) (room : ℕ) where
   abbrev over : Bool
   over = ltb room (length (joined_text (is_ucs2 (read_under ShortMessage coding).alphabet) cs o))
 
-  told : (q : Refusal) → (join_answers coding cs o room ≡ joined.Refused q) ↔ (verdict (join_rules heard cs o room) ≡ refused q)
+  told : (q : Refusal) → (join_answers coding cs o room ≡ Err q) ↔ (verdict (join_rules heard cs o room) ≡ refused q)
   unfolding join_answers
-  told q = settle-refused-iff join_told joined.Refused (given_join coding cs o) (λ p. refl) refl (verdict (join_rules heard cs o room)) q
+  told q = settle-refused-iff verdict_of Err (given_join coding cs o) (λ p. refl) refl (verdict (join_rules heard cs o room)) q
 
   abbrev four : List Rule
   four = when (wrong_counts ucs2 cs o) WrongLength ∷ []
@@ -129,7 +126,7 @@ module _ (coding : ℕ) (cs o : List ℕ) (room : ℕ) where
   )
 
   -- "12, after 4"
-  pub join-refuses-12-iff : (join_answers coding cs o room ≡ joined.Refused WrongHeader)
+  pub join-refuses-12-iff : (join_answers coding cs o room ≡ Err WrongHeader)
       ↔ (HoldsText (read_under ShortMessage coding)
       × (wrong_counts (is_ucs2 (read_under ShortMessage coding).alphabet) cs o ≡ false)
       × (wrong_heads (is_ucs2 (read_under ShortMessage coding).alphabet) cs o ≡ true))
@@ -140,7 +137,7 @@ module _ (coding : ℕ) (cs o : List ℕ) (room : ℕ) where
       (λ e. let v = iff.0 e in let w = before-twelve.0 v.0 in (w.0, w.1, v.1), λ (h, c, w). iff.1 (before-twelve.1 (h, c), w))
 
   -- "then, on joining only, 10"
-  pub join-refuses-10-iff : (join_answers coding cs o room ≡ joined.Refused WrongPages)
+  pub join-refuses-10-iff : (join_answers coding cs o room ≡ Err WrongPages)
       ↔ (HoldsText (read_under ShortMessage coding)
       × (wrong_counts (is_ucs2 (read_under ShortMessage coding).alphabet) cs o ≡ false)
       × (wrong_heads (is_ucs2 (read_under ShortMessage coding).alphabet) cs o ≡ false)
@@ -152,7 +149,7 @@ module _ (coding : ℕ) (cs o : List ℕ) (room : ℕ) where
       (λ e. let v = iff.0 e in let w = before-ten.0 v.0 in (w.0, w.1, w.2, w.3, v.1), λ (h, c, d, f, w). iff.1 (before-ten.1 (h, c, d, f), w))
 
   -- "octets not of the length that the counts ask are 4"; "UCS2 evenness is judged behind the header, after 12"
-  pub join-refuses-4-iff : (join_answers coding cs o room ≡ joined.Refused WrongLength)
+  pub join-refuses-4-iff : (join_answers coding cs o room ≡ Err WrongLength)
       ↔ (HoldsText (read_under ShortMessage coding)
       × ((wrong_counts (is_ucs2 (read_under ShortMessage coding).alphabet) cs o ≡ true)
       ⊎ ((wrong_counts (is_ucs2 (read_under ShortMessage coding).alphabet) cs o ≡ false)
@@ -164,12 +161,12 @@ module _ (coding : ℕ) (cs o : List ℕ) (room : ℕ) where
       (length-iff (text_rules ShortMessage heard) (wrong_counts ucs2 cs o) (wrong_heads ucs2 cs o) (odd_parts ucs2 cs o) (when (wrong_parts ucs2 cs o) WrongPages ∷ when over NoRoom ∷ []) refl refl) in
       (λ e. let v = iff.0 e in (text-accepted ShortMessage heard v.0, v.1), λ (h, w). iff.1 (text-accepts ShortMessage heard h, w))
 
-  pub join-never-3 : coding < 256 → join_answers coding cs o room ≡ joined.Refused Prefixed → ⊥
+  pub join-never-3 : coding < 256 → join_answers coding cs o room ≡ Err Prefixed → ⊥
   unfolding join_rules parts_rules gives part_reads part_read_rules
   join-never-3 small e =
-      let v = in-front (text_rules ShortMessage heard) (parts_rules ucs2 cs o room) Prefixed refl (join-verdict coding cs o room (joined.Refused Prefixed) (sym e)) in
+      let v = in-front (text_rules ShortMessage heard) (parts_rules ucs2 cs o room) Prefixed refl (join-verdict coding cs o room (Err Prefixed) (sym e)) in
       read-never-3 coding false 0 [] 0 small
-      (refused-settles (verdict (part_read_rules heard false 0 [] 0)) read.Refused _ Prefixed (verdict-refused-first (text_rules ShortMessage heard) (behind_rules ucs2 false 0 [] 0) Prefixed v))
+      (refused-settles (verdict (part_read_rules heard false 0 [] 0)) Err _ Prefixed (verdict-refused-first (text_rules ShortMessage heard) (behind_rules ucs2 false 0 [] 0) Prefixed v))
 
 -- "no parts are 10, and octets beside no counts 4"
 module _ (coding room : ℕ) (holds : HoldsText (read_under ShortMessage coding)) where
@@ -181,14 +178,14 @@ module _ (coding room : ℕ) (holds : HoldsText (read_under ShortMessage coding)
   unfolding wrong_counts first_place all_asked
   octets-wrong ucs2 x o = simp (ne_eqb (suc (length o)) 0 (omega arith))
 
-  pub join-empty : (join_answers coding [] [] room ≡ joined.Refused WrongPages) × ((x : ℕ) (o : List ℕ) → join_answers coding [] (x ∷ o) room ≡ joined.Refused WrongLength)
+  pub join-empty : (join_answers coding [] [] room ≡ Err WrongPages) × ((x : ℕ) (o : List ℕ) → join_answers coding [] (x ∷ o) room ≡ Err WrongLength)
   join-empty =
       let n = none-wrong (is_ucs2 (read_under ShortMessage coding).alphabet) in (
         (join-refuses-10-iff coding [] [] room).1 (holds, n.0, n.1, n.2, n.3),
         λ x o. (join-refuses-4-iff coding [] (x ∷ o) room).1 (holds, inl (octets-wrong (is_ucs2 (read_under ShortMessage coding).alphabet) x o)),
       )
 
-pub join-refuses : (coding : ℕ) (cs o out : List ℕ) (q : Refusal) → join_answers coding cs o (length out) ≡ joined.Refused q
+pub join-refuses : (coding : ℕ) (cs o out : List ℕ) (q : Refusal) → join_answers coding cs o (length out) ≡ Err q
     → (join_number (join_answers coding cs o (length out)) ≡ number_of q)
     × (join_position (join_answers coding cs o (length out)) ≡ position_of q)
     × (join_written (join_answers coding cs o (length out)) ≡ 0)
@@ -204,5 +201,5 @@ join-refuses coding cs o out q e = (
   ap join_reading e,
   ap join_reference e,
   ap join_parts e,
-  refused-settles (verdict (join_rules (read_under ShortMessage coding) cs o (length out))) (λ p. out) _ q (join-verdict coding cs o (length out) (joined.Refused q) (sym e)),
+  refused-settles (verdict (join_rules (read_under ShortMessage coding) cs o (length out))) (λ p. out) _ q (join-verdict coding cs o (length out) (Err q) (sym e)),
 )

@@ -11,9 +11,7 @@
 --   behind_reads, behind_read_leaves                 == the same of its text by itself, which is UCS2 or 7-bit: 4, 12, 4, 7
 --   tail_rules, tail_reads, tail_leaves              == the same behind a header of h octets: 4 of evenness, 7
 --   with_reading r answer, with_numbers c answer     == the answer of a text, with the reading; the answer of storing it, with the numbers of the part
-use Rattle.std.specs.Prelude.{ℕ, suc, ◌+◌, ◌*◌, Bool, cond, ◌||◌, List, [], ◌∷◌, ◌++◌, ltb, eqb, length}
-use Rattle.words.specs.declared.Filled.{Filled}
-use Rattle.words.specs.declared.Filled.TheVariants as filled
+use Rattle.std.specs.Prelude.{ℕ, suc, ◌+◌, ◌*◌, Bool, cond, ◌||◌, List, [], ◌∷◌, ◌++◌, ltb, eqb, length, Result, Option, Ok, Err}
 use Rattle.words.specs.declared.Refusal.TheVariants.{WrongLength, TooLong, NoRoom, WrongPages}
 use Rattle.words.specs.Judging.{Rule, when, verdict, settle}
 use Rattle.lists.specs.Lists.{laid}
@@ -24,33 +22,30 @@ use Rattle.letters.specs.Sized.{content_of}
 use Rattle.stream.specs.Stream.{octets_for}
 use Rattle.filling.specs.Numbered.{lacks}
 use Rattle.headed.specs.Header.{septets_over}
-use Rattle.headed.specs.declared.Concatenation.{Concatenation}
 use Rattle.parted.specs.declared.PartRead.{PartRead}
-use Rattle.parted.specs.declared.PartRead.TheVariants as part
-use Rattle.parted.specs.declared.Counted.{Counted}
-use Rattle.parted.specs.declared.Counted.TheVariants as counted
 use Rattle.parted.specs.declared.PartWritten.{PartWritten}
-use Rattle.parted.specs.declared.PartWritten.TheVariants as wrote
 use Rattle.parted.specs.declared.PartsWritten.{PartsWritten}
-use Rattle.parted.specs.declared.PartsWritten.TheVariants as all
 use Rattle.parted.specs.declared.Plan.{Plan}
-use Rattle.parted.specs.declared.Planned.{Planned}
-use Rattle.parted.specs.declared.Planned.TheVariants as planned
 use Rattle.parted.specs.declared.TextRead.{TextRead}
-use Rattle.parted.specs.declared.TextRead.TheVariants as text
 use Rattle.parted.specs.Parts.{most_parts, parts_holding, parts_of, is_marked, mark_size, part_octets, part_count}
 use Rattle.parted.specs.Written.{all_octets, all_sizes, size_rules}
 use Rattle.parted.specs.Cutting.{part_length}
 use Rattle.parted.specs.Read.{head_size, odd_behind, text_behind, marked_numbers, behind_rules, part_read_rules}
+use Rattle.words.specs.declared.Refusal.{Refusal}
+use Rattle.headed.specs.declared.Numbers.{Numbers}
+use Rattle.parted.specs.Successes.{ok_parts_written}
+use Rattle.parted.specs.Successes.{ok_text_read}
+use Rattle.parted.specs.Successes.{ok_part_read}
+use Rattle.parted.specs.Successes.{ok_part_written}
 
-unfoldable pub sized_plan : Bool → Bool → ℕ → Planned
+unfoldable pub sized_plan : Bool → Bool → ℕ → Result Plan Refusal
 sized_plan ucs2 plain n =
-    settle (verdict (when (ltb most_parts (parts_holding ucs2 n)) TooLong ∷ [])) planned.Refused
-    (planned.Parts (record { ucs2 = ucs2; plain = plain; total = parts_holding ucs2 n; content = n }))
+    settle (verdict (when (ltb most_parts (parts_holding ucs2 n)) TooLong ∷ [])) Err
+    (Ok (record { ucs2 = ucs2; plain = plain; total = parts_holding ucs2 n; content = n }))
 
-abbrev pub counted_as : Planned → Counted
-counted_as (planned.Parts p) = counted.Parts p.total
-counted_as (planned.Refused q) = counted.Refused q
+abbrev pub counted_as : Result Plan Refusal → Result ℕ Refusal
+counted_as (Ok p) = Ok p.total
+counted_as (Err q) = Err q
 
 unfoldable pub plan_count : Plan → ℕ → ℕ
 plan_count p k = cond p.ucs2 (mark_size p.total + 2 * part_length p k) (septets_over (mark_size p.total) + part_length p k)
@@ -68,10 +63,10 @@ part_rules_in ucs2 reference units k room =
     ∷ when (ltb room (length (octets_in ucs2 reference units k))) NoRoom
     ∷ [])
 
-unfoldable pub text_part : Bool → ℕ → ℕ → List ℕ → ℕ → ℕ → PartWritten
+unfoldable pub text_part : Bool → ℕ → ℕ → List ℕ → ℕ → ℕ → Result PartWritten Refusal
 text_part ucs2 coding reference units k room =
-    settle (verdict (part_rules_in ucs2 reference units k room)) wrote.Refused
-    (wrote.Done (length (octets_in ucs2 reference units k)) (part_count ucs2 reference (parts_of ucs2 units) (content_of ucs2 units) k) (is_marked (parts_of ucs2 units)) coding (parts_of ucs2 units))
+    settle (verdict (part_rules_in ucs2 reference units k room)) Err
+    (ok_part_written (length (octets_in ucs2 reference units k)) (part_count ucs2 reference (parts_of ucs2 units) (content_of ucs2 units) k) (is_marked (parts_of ucs2 units)) coding (parts_of ucs2 units))
 
 unfoldable pub text_part_leaves : Bool → ℕ → List ℕ → ℕ → List ℕ → List ℕ
 text_part_leaves ucs2 reference units k out =
@@ -87,10 +82,10 @@ abbrev pub all_rules_in : Bool → ℕ → List ℕ → ℕ → ℕ → List Rul
 all_rules_in ucs2 reference units room list =
     size_rules ucs2 units ++ (when (ltb room (length (all_in ucs2 reference units)) || ltb list (length (sizes_in ucs2 reference units))) NoRoom ∷ [])
 
-unfoldable pub text_parts : Bool → ℕ → ℕ → List ℕ → ℕ → ℕ → PartsWritten
+unfoldable pub text_parts : Bool → ℕ → ℕ → List ℕ → ℕ → ℕ → Result PartsWritten Refusal
 text_parts ucs2 coding reference units room list =
-    settle (verdict (all_rules_in ucs2 reference units room list)) all.Refused
-    (all.Done (length (all_in ucs2 reference units)) (is_marked (parts_of ucs2 units)) coding (parts_of ucs2 units))
+    settle (verdict (all_rules_in ucs2 reference units room list)) Err
+    (ok_parts_written (length (all_in ucs2 reference units)) (is_marked (parts_of ucs2 units)) coding (parts_of ucs2 units))
 
 unfoldable pub text_parts_leaves : Bool → ℕ → List ℕ → ℕ → List ℕ → List ℕ
 text_parts_leaves ucs2 reference units list out =
@@ -108,19 +103,19 @@ unfoldable pub open_after : Bool → List ℕ → Bool
 open_after half [] = half
 open_after half (x ∷ s) = open_after (eqb x escape) s
 
-unfoldable pub held_reads : Reading → Bool → ℕ → List ℕ → ℕ → PartRead
+unfoldable pub held_reads : Reading → Bool → ℕ → List ℕ → ℕ → Result PartRead Refusal
 held_reads r marked count o room =
-    settle (verdict (part_read_rules r marked count o room)) part.Refused
-    (part.Done (length (text_behind (is_ucs2 r.alphabet) (head_size marked o) count o)) r (marked_numbers marked o))
+    settle (verdict (part_read_rules r marked count o room)) Err
+    (ok_part_read (length (text_behind (is_ucs2 r.alphabet) (head_size marked o) count o)) r (marked_numbers marked o))
 
 unfoldable pub held_read_leaves : Reading → Bool → ℕ → List ℕ → List ℕ → List ℕ
 held_read_leaves r marked count o out =
     settle (verdict (part_read_rules r marked count o (length out))) (λ q. out) (laid (text_behind (is_ucs2 r.alphabet) (head_size marked o) count o) out)
 
-unfoldable pub behind_reads : Bool → Bool → ℕ → List ℕ → ℕ → TextRead
+unfoldable pub behind_reads : Bool → Bool → ℕ → List ℕ → ℕ → Result TextRead Refusal
 behind_reads ucs2 marked count o room =
-    settle (verdict (behind_rules ucs2 marked count o room)) text.Refused
-    (text.Done (length (text_behind ucs2 (head_size marked o) count o)) (marked_numbers marked o))
+    settle (verdict (behind_rules ucs2 marked count o room)) Err
+    (ok_text_read (length (text_behind ucs2 (head_size marked o) count o)) (marked_numbers marked o))
 
 unfoldable pub behind_read_leaves : Bool → Bool → ℕ → List ℕ → List ℕ → List ℕ
 behind_read_leaves ucs2 marked count o out =
@@ -132,16 +127,16 @@ tail_rules ucs2 h count o room =
     ∷ when (ltb room (length (text_behind ucs2 h count o))) NoRoom
     ∷ []
 
-unfoldable pub tail_reads : Bool → ℕ → ℕ → List ℕ → ℕ → Filled
-tail_reads ucs2 h count o room = settle (verdict (tail_rules ucs2 h count o room)) filled.Refused (filled.Done (length (text_behind ucs2 h count o)))
+unfoldable pub tail_reads : Bool → ℕ → ℕ → List ℕ → ℕ → Result ℕ Refusal
+tail_reads ucs2 h count o room = settle (verdict (tail_rules ucs2 h count o room)) Err (Ok (length (text_behind ucs2 h count o)))
 
 unfoldable pub tail_leaves : Bool → ℕ → ℕ → List ℕ → List ℕ → List ℕ
 tail_leaves ucs2 h count o out = settle (verdict (tail_rules ucs2 h count o (length out))) (λ q. out) (laid (text_behind ucs2 h count o) out)
 
-abbrev pub with_reading : Reading → TextRead → PartRead
-with_reading r (text.Done units c) = part.Done units r c
-with_reading r (text.Refused q) = part.Refused q
+abbrev pub with_reading : Reading → Result TextRead Refusal → Result PartRead Refusal
+with_reading r (Ok m) = ok_part_read m.units r m.concatenation
+with_reading r (Err q) = Err q
 
-abbrev pub with_numbers : Concatenation → Filled → TextRead
-with_numbers c (filled.Done units) = text.Done units c
-with_numbers c (filled.Refused q) = text.Refused q
+abbrev pub with_numbers : Option Numbers → Result ℕ Refusal → Result TextRead Refusal
+with_numbers c (Ok units) = ok_text_read units c
+with_numbers c (Err q) = Err q

@@ -18,9 +18,7 @@
 --   run_in septets begin end             == the run that stands between two places of an array
 --   Ready septets begin end              == it stands there, and its septets are septets
 --   read_up_to cs o k, open_up_to cs o k == what is read of the parts up to number k, and whether such an escape is left
-use Rattle.std.specs.Prelude.{ℕ, suc, ◌-◌, ◌≤◌, ◌<◌, ◌≡◌, Bool, true, false, cond, List, [], ◌∷◌, leb, eqb, length, get_or, take, drop}
-use Rattle.words.specs.declared.Filled.{Filled}
-use Rattle.words.specs.declared.Filled.TheVariants as filled
+use Rattle.std.specs.Prelude.{ℕ, suc, ◌-◌, ◌≤◌, ◌<◌, ◌≡◌, Bool, true, false, cond, List, [], ◌∷◌, leb, eqb, length, get_or, take, drop, Result, Option, Ok, Err}
 use Rattle.words.specs.declared.Refusal.{Refusal}
 use Rattle.words.specs.declared.Refusal.TheVariants.{WrongLength, WrongHeader}
 use Rattle.words.specs.Judging.{when, verdict, settle}
@@ -29,44 +27,41 @@ use Rattle.coding.specs.declared.Reading.{Reading}
 use Rattle.coding.specs.Holding.{is_ucs2}
 use Rattle.letters.specs.Tables.{escape}
 use Rattle.headed.specs.declared.Numbers.{Numbers}
-use Rattle.headed.specs.declared.Concatenation.{Concatenation}
 use Rattle.headed.specs.Header.{header_size, septets_over}
 use Rattle.parted.specs.declared.PartOrder.{PartOrder}
-use Rattle.parted.specs.declared.PartsJudged.{PartsJudged}
-use Rattle.parted.specs.declared.PartsJudged.TheVariants.{Right, Refused}
 use Rattle.parted.specs.declared.PartsJoined.{PartsJoined}
-use Rattle.parted.specs.declared.PartsJoined.TheVariants as joined
 use Rattle.parted.specs.Joined.{start_at, wrong_counts, wrong_heads, odd_parts, numbers_at, number_in, total_in, reference_in, wrong_parts, place_of, content_at, joined_from, joined_text, parts_rules, join_rules}
+use Rattle.parted.specs.Successes.{ok_parts_joined}
 
-unfoldable pub heads_judged : Bool → List ℕ → List ℕ → PartsJudged
+unfoldable pub heads_judged : Bool → List ℕ → List ℕ → Result (Unit {0}) Refusal
 heads_judged ucs2 cs o =
-    settle (verdict (when (wrong_heads ucs2 cs o) WrongHeader ∷ when (odd_parts ucs2 cs o) WrongLength ∷ [])) Refused Right
+    settle (verdict (when (wrong_heads ucs2 cs o) WrongHeader ∷ when (odd_parts ucs2 cs o) WrongLength ∷ [])) Err (Ok tt)
 
-abbrev pub given_numbers : Concatenation → Numbers
+abbrev pub given_numbers : Option Numbers → Numbers
 given_numbers c = record { reference = reference_in c; total = total_in c; number = number_in c }
 
 abbrev pub refused_order : Refusal → PartOrder
-refused_order q = record { judged = Refused q; reference = 0 }
+refused_order q = record { judged = Err q; reference = 0 }
 
-unfoldable pub held_joins : Reading → List ℕ → List ℕ → ℕ → PartsJoined
+unfoldable pub held_joins : Reading → List ℕ → List ℕ → ℕ → Result PartsJoined Refusal
 held_joins r cs o room =
-    settle (verdict (join_rules r cs o room)) joined.Refused
-    (joined.Done (length (joined_text (is_ucs2 r.alphabet) cs o)) r (reference_in (numbers_at (is_ucs2 r.alphabet) cs o 0)) (length cs))
+    settle (verdict (join_rules r cs o room)) Err
+    (ok_parts_joined (length (joined_text (is_ucs2 r.alphabet) cs o)) r (reference_in (numbers_at (is_ucs2 r.alphabet) cs o 0)) (length cs))
 
 unfoldable pub held_join_leaves : Reading → List ℕ → List ℕ → List ℕ → List ℕ
 held_join_leaves r cs o out = settle (verdict (join_rules r cs o (length out))) (λ q. out) (laid (joined_text (is_ucs2 r.alphabet) cs o) out)
 
-unfoldable pub text_joins : Reading → Bool → List ℕ → List ℕ → ℕ → PartsJoined
+unfoldable pub text_joins : Reading → Bool → List ℕ → List ℕ → ℕ → Result PartsJoined Refusal
 text_joins r ucs2 cs o room =
-    settle (verdict (parts_rules ucs2 cs o room)) joined.Refused
-    (joined.Done (length (joined_text ucs2 cs o)) r (reference_in (numbers_at ucs2 cs o 0)) (length cs))
+    settle (verdict (parts_rules ucs2 cs o room)) Err
+    (ok_parts_joined (length (joined_text ucs2 cs o)) r (reference_in (numbers_at ucs2 cs o 0)) (length cs))
 
 unfoldable pub text_join_leaves : Bool → List ℕ → List ℕ → List ℕ → List ℕ
 text_join_leaves ucs2 cs o out = settle (verdict (parts_rules ucs2 cs o (length out))) (λ q. out) (laid (joined_text ucs2 cs o) out)
 
-abbrev pub joined_as : Reading → ℕ → ℕ → Filled → PartsJoined
-joined_as r reference parts (filled.Done units) = joined.Done units r reference parts
-joined_as r reference parts (filled.Refused q) = joined.Refused q
+abbrev pub joined_as : Reading → ℕ → ℕ → Result ℕ Refusal → Result PartsJoined Refusal
+joined_as r reference parts (Ok units) = ok_parts_joined units r reference parts
+joined_as r reference parts (Err q) = Err q
 
 pub record Sorted (ucs2 : Bool) (cs o places starts : List ℕ) : Type 0 where
   pub fits : wrong_counts ucs2 cs o ≡ false

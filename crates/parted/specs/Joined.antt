@@ -14,7 +14,7 @@
 --   place_of k                                                    == the part that has the number k
 --   joined_from, joined_content, joined_text                      == what n parts from number k on hold, what all hold, the text of it
 --   join_rules, join_answers, join_leaves                         == what join_parts refuses, answers and leaves in the lent buffer
-use Rattle.std.specs.Prelude.{ℕ, zero, suc, ◌+◌, Bool, false, not, cond, ◌&&◌, ◌||◌, List, [], ◌∷◌, ◌++◌, ltb, eqb, length, get_or, take, drop}
+use Rattle.std.specs.Prelude.{ℕ, zero, suc, ◌+◌, Bool, false, not, cond, ◌&&◌, ◌||◌, List, [], ◌∷◌, ◌++◌, ltb, eqb, length, get_or, take, drop, Result, Option, Err, Some, None}
 use Rattle.words.specs.declared.Service.TheVariants.{ShortMessage}
 use Rattle.words.specs.declared.Refusal.TheVariants.{WrongLength, WrongHeader, WrongPages, NoRoom}
 use Rattle.words.specs.Sizes.{most_septets, most_octets}
@@ -25,12 +25,12 @@ use Rattle.coding.specs.OctetRead.{read_under}
 use Rattle.coding.specs.Holding.{is_ucs2, text_rules}
 use Rattle.stream.specs.Stream.{octets_for}
 use Rattle.filling.specs.Numbered.{some_of, place_among, wrong_among}
-use Rattle.headed.specs.declared.Concatenation.{Concatenation}
-use Rattle.headed.specs.declared.Concatenation.TheVariants.{Absent, Present}
 use Rattle.headed.specs.Header.{header_size, header_numbers}
 use Rattle.parted.specs.declared.PartsJoined.{PartsJoined}
-use Rattle.parted.specs.declared.PartsJoined.TheVariants.{Done, Refused}
 use Rattle.parted.specs.Read.{wrong_head, odd_behind, content_behind, shown_as}
+use Rattle.words.specs.declared.Refusal.{Refusal}
+use Rattle.headed.specs.declared.Numbers.{Numbers}
+use Rattle.parted.specs.Successes.{ok_parts_joined}
 
 abbrev pub octets_asked : Bool → ℕ → ℕ
 octets_asked ucs2 c = cond ucs2 c (octets_for c)
@@ -57,25 +57,25 @@ wrong_heads ucs2 cs o = some_of (λ i. wrong_head ucs2 (get_or cs i 0) (part_in 
 unfoldable pub odd_parts : Bool → List ℕ → List ℕ → Bool
 odd_parts ucs2 cs o = some_of (λ i. odd_behind ucs2 (header_size (part_in ucs2 cs o i)) (part_in ucs2 cs o i)) (numbers_from 0 (length cs))
 
-unfoldable pub numbers_at : Bool → List ℕ → List ℕ → ℕ → Concatenation
+unfoldable pub numbers_at : Bool → List ℕ → List ℕ → ℕ → Option Numbers
 numbers_at ucs2 cs o i = header_numbers (part_in ucs2 cs o i)
 
-abbrev pub number_in : Concatenation → ℕ
-number_in Absent = 0
-number_in (Present n) = n.number
+abbrev pub number_in : Option Numbers → ℕ
+number_in None = 0
+number_in (Some n) = n.number
 
-abbrev pub total_in : Concatenation → ℕ
-total_in Absent = 0
-total_in (Present n) = n.total
+abbrev pub total_in : Option Numbers → ℕ
+total_in None = 0
+total_in (Some n) = n.total
 
-abbrev pub reference_in : Concatenation → ℕ
-reference_in Absent = 0
-reference_in (Present n) = n.reference
+abbrev pub reference_in : Option Numbers → ℕ
+reference_in None = 0
+reference_in (Some n) = n.reference
 
-abbrev pub of_one_message : Concatenation → Concatenation → Bool
-of_one_message (Present m) (Present n) = eqb m.reference n.reference && eqb m.total n.total
-of_one_message (Present m) Absent = false
-of_one_message Absent c = false
+abbrev pub of_one_message : Option Numbers → Option Numbers → Bool
+of_one_message (Some m) (Some n) = eqb m.reference n.reference && eqb m.total n.total
+of_one_message (Some m) None = false
+of_one_message None c = false
 
 abbrev pub number_at : Bool → List ℕ → List ℕ → ℕ → ℕ
 number_at ucs2 cs o i = number_in (numbers_at ucs2 cs o i)
@@ -119,10 +119,10 @@ parts_rules ucs2 cs o room =
 unfoldable pub join_rules : Reading → List ℕ → List ℕ → ℕ → List Rule
 join_rules r cs o room = text_rules ShortMessage r ++ parts_rules (is_ucs2 r.alphabet) cs o room
 
-unfoldable pub join_answers : ℕ → List ℕ → List ℕ → ℕ → PartsJoined
+unfoldable pub join_answers : ℕ → List ℕ → List ℕ → ℕ → Result PartsJoined Refusal
 join_answers coding cs o room =
-    settle (verdict (join_rules (read_under ShortMessage coding) cs o room)) Refused
-    (Done (length (joined_text (is_ucs2 (read_under ShortMessage coding).alphabet) cs o)) (read_under ShortMessage coding)
+    settle (verdict (join_rules (read_under ShortMessage coding) cs o room)) Err
+    (ok_parts_joined (length (joined_text (is_ucs2 (read_under ShortMessage coding).alphabet) cs o)) (read_under ShortMessage coding)
     (reference_in (numbers_at (is_ucs2 (read_under ShortMessage coding).alphabet) cs o 0)) (length cs))
 
 unfoldable pub join_leaves : ℕ → List ℕ → List ℕ → List ℕ → List ℕ

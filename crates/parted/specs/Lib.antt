@@ -1,3 +1,4 @@
+pub mod Successes
 pub mod Behind
 pub mod Parts
 pub mod Written

@@ -29,32 +29,29 @@
 --   ReadOnce ucs2 cs o                                               == of the parts each is read once and none is left out: number k is read from part `place_of ucs2 cs o k`, and part i has the
 --                                                                       number `number_at ucs2 cs o i`
 --   alone answer, unmarked answer                                    == the answer of the base's whole writer as that of write_part for a lone message; of its whole reader as that of read_part
-use Rattle.std.specs.Prelude.{◌≡◌, Bool, true, false, cond, List, [], ◌∷◌, ◌++◌, ℕ, zero, suc, ◌+◌, ◌*◌, ◌<◌, ◌≤◌, length, get_or, take, drop}
+use Rattle.std.specs.Prelude.{◌≡◌, Bool, true, false, cond, List, [], ◌∷◌, ◌++◌, ℕ, zero, suc, ◌+◌, ◌*◌, ◌<◌, ◌≤◌, length, get_or, take, drop, Result, Option, Ok, Err, Some, None}
 use Rattle.words.specs.declared.Service.TheVariants.{ShortMessage}
 use Rattle.lists.specs.Lists.{laid}
 use Rattle.coding.specs.declared.Reading.{Reading}
-use Rattle.coding.specs.declared.OctetRead.TheVariants as octet-read
 use Rattle.coding.specs.OctetRead.{read_under, octet_reads}
 use Rattle.coding.specs.Holding.{is_ucs2}
 use Rattle.letters.specs.Sized.{not_codable}
 use Rattle.demands.specs.declared.MessageRead.{MessageRead}
-use Rattle.demands.specs.declared.MessageRead.TheVariants as message-read
 use Rattle.demands.specs.declared.MessageWritten.{MessageWritten}
-use Rattle.demands.specs.declared.MessageWritten.TheVariants as message-written
 use Rattle.demands.specs.Demands.{HoldsText}
 use Rattle.filling.specs.Numbered.{OneToOne}
-use Rattle.headed.specs.declared.Concatenation.{Concatenation}
-use Rattle.headed.specs.declared.Concatenation.TheVariants.{Absent, Present}
 use Rattle.parted.specs.declared.PartWritten.{PartWritten}
-use Rattle.parted.specs.declared.PartWritten.TheVariants as written
 use Rattle.parted.specs.declared.PartRead.{PartRead}
-use Rattle.parted.specs.declared.PartRead.TheVariants as read
-use Rattle.parted.specs.declared.PartsJoined.TheVariants as joined
 use Rattle.parted.specs.Parts.{most_parts, is_marked, part_header, part_content}
 use Rattle.parted.specs.Written.{reading_parts, reading_content, octets_as, octets_of_all, part_answers, part_leaves, all_answers, all_leaves, sizes_leaves}
 use Rattle.parted.specs.Read.{count_fits, head_size, wrong_head, odd_behind, text_behind, part_reads, part_read_leaves}
 use Rattle.parted.specs.Joined.{all_asked, part_in, wrong_counts, wrong_heads, odd_parts, number_at, total_at, alike, wrong_parts, joined_text, join_answers, join_leaves}
 use Rattle.parted.specs.Reports.{part_number, part_written, part_travels, part_marked, part_coding, part_parts, parts_number, parts_written, parts_marked, parts_coding, parts_parts}
+use Rattle.words.specs.declared.Refusal.{Refusal}
+use Rattle.headed.specs.declared.Numbers.{Numbers}
+use Rattle.parted.specs.Successes.{ok_part_read}
+use Rattle.parted.specs.Successes.{ok_part_written}
+use Rattle.parted.specs.Successes.{ok_parts_joined}
 
 abbrev pub header_as : Reading → ℕ → List ℕ → ℕ → List ℕ
 header_as r reference t k = part_header reference (reading_parts r t) k
@@ -62,13 +59,13 @@ header_as r reference t k = part_header reference (reading_parts r t) k
 abbrev pub content_as : Reading → List ℕ → ℕ → List ℕ
 content_as r t k = part_content (is_ucs2 r.alphabet) (reading_parts r t) (reading_content r t) k
 
-abbrev pub numbers_as : Reading → ℕ → List ℕ → ℕ → Concatenation
+abbrev pub numbers_as : Reading → ℕ → List ℕ → ℕ → Option Numbers
 numbers_as r reference t k =
-    cond (is_marked (reading_parts r t)) (Present (record { reference = reference; total = reading_parts r t; number = k })) Absent
+    cond (is_marked (reading_parts r t)) (Some (record { reference = reference; total = reading_parts r t; number = k })) None
 
 pub record ReadingWritable (r : Reading) : Type 0 where
   pub plain : r.reserved ≡ false
-  pub octet : (o : ℕ) × ((o < 256) × (octet_reads ShortMessage o ≡ octet-read.Done r))
+  pub octet : (o : ℕ) × ((o < 256) × (octet_reads ShortMessage o ≡ Ok r))
   pub holds : HoldsText r
 
 pub record PartsWritable (r : Reading) (t : List ℕ) : Type 0 where
@@ -121,10 +118,10 @@ sent_coding r reference t k out = part_coding (part_answers r reference t k (len
 abbrev pub sent_parts : Reading → ℕ → List ℕ → ℕ → List ℕ → ℕ
 sent_parts r reference t k out = part_parts (part_answers r reference t k (length out))
 
-abbrev pub ComesPart : ℕ → Bool → ℕ → List ℕ → Reading → Concatenation → List ℕ → Type 0
+abbrev pub ComesPart : ℕ → Bool → ℕ → List ℕ → Reading → Option Numbers → List ℕ → Type 0
 ComesPart coding marked count o r c text =
     (out : List ℕ) → length text ≤ length out
-    → (part_reads coding marked count o (length out) ≡ read.Done (length text) r c) × (part_read_leaves coding marked count o out ≡ laid text out)
+    → (part_reads coding marked count o (length out) ≡ ok_part_read (length text) r c) × (part_read_leaves coding marked count o out ≡ laid text out)
 
 abbrev pub SendsParts : Reading → ℕ → List ℕ → List ℕ → List ℕ → Type 0
 SendsParts r reference t out list = parts_number (all_answers r reference t (length out) (length list)) ≡ 0
@@ -187,15 +184,15 @@ pieces_from part i (suc n) = part i ++ pieces_from part (suc i) n
 abbrev pub JoinsParts : ℕ → List ℕ → List ℕ → Reading → ℕ → ℕ → List ℕ → Type 0
 JoinsParts coding cs o r reference parts text =
     (out : List ℕ) → length text ≤ length out
-    → (join_answers coding cs o (length out) ≡ joined.Done (length text) r reference parts) × (join_leaves coding cs o out ≡ laid text out)
+    → (join_answers coding cs o (length out) ≡ ok_parts_joined (length text) r reference parts) × (join_leaves coding cs o out ≡ laid text out)
 
 abbrev pub ReadOnce : Bool → List ℕ → List ℕ → Type 0
 ReadOnce ucs2 cs o = OneToOne (number_at ucs2 cs o) (total_at ucs2 cs o) (alike ucs2 cs o) (length cs)
 
-abbrev pub alone : MessageWritten → PartWritten
-alone (message-written.Done octets count coding) = written.Done octets count false coding 1
-alone (message-written.Refused q) = written.Refused q
+abbrev pub alone : Result MessageWritten Refusal → Result PartWritten Refusal
+alone (Ok m) = ok_part_written m.octets m.count false m.coding 1
+alone (Err q) = Err q
 
-abbrev pub unmarked : MessageRead → PartRead
-unmarked (message-read.Done units reading) = read.Done units reading Absent
-unmarked (message-read.Refused q) = read.Refused q
+abbrev pub unmarked : Result MessageRead Refusal → Result PartRead Refusal
+unmarked (Ok m) = ok_part_read m.units m.reading None
+unmarked (Err q) = Err q

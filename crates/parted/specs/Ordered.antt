@@ -6,13 +6,12 @@
 --   starts_of ucs2 cs        == for each place from 0 to 255 where the part there begins, and 0 where there is none
 --   part_order_of ucs2 cs o  == whether they are the parts of one message, and their reference
 --   places_left, starts_left == the two tables, as part_order leaves them
-use Rattle.std.specs.Prelude.{ℕ, Bool, cond, List, [], ◌∷◌, map, ltb, length, replicate}
+use Rattle.std.specs.Prelude.{ℕ, Bool, cond, List, [], ◌∷◌, map, ltb, length, replicate, Ok, Err}
 use Rattle.words.specs.declared.Refusal.TheVariants.{WrongLength, WrongHeader, WrongPages}
 use Rattle.words.specs.Judging.{Rule, when, verdict, settle}
 use Rattle.lists.specs.Lists.{numbers_from}
 use Rattle.filling.specs.Numbered.{table_among}
 use Rattle.parted.specs.declared.PartOrder.{PartOrder}
-use Rattle.parted.specs.declared.PartsJudged.TheVariants.{Right, Refused}
 use Rattle.parted.specs.Joined.{start_at, wrong_counts, wrong_heads, odd_parts, wrong_parts, numbers_at, number_at, reference_in}
 
 -- 4, 12, 4, 10
@@ -36,7 +35,7 @@ starts_of ucs2 cs = map (start_entry ucs2 cs) (numbers_from 0 256)
 unfoldable pub part_order_of : Bool → List ℕ → List ℕ → PartOrder
 part_order_of ucs2 cs o =
     record {
-      judged = settle (verdict (order_rules ucs2 cs o)) Refused Right;
+      judged = settle (verdict (order_rules ucs2 cs o)) Err (Ok tt);
       reference = settle (verdict (order_rules ucs2 cs o)) (λ q. 0) (reference_in (numbers_at ucs2 cs o 0));
     }
 

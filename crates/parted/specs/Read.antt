@@ -13,7 +13,7 @@
 --   marked_numbers marked o       == the numbers of the part, if there are any
 --   behind_rules, part_read_rules == what refuses octets whose reading is known; what refuses them by their coding octet too, where the lent buffer has that much room
 --   part_reads, part_read_leaves  == what read_part answers, and what it leaves in the lent buffer
-use Rattle.std.specs.Prelude.{ℕ, ◌-◌, ◌%◌, Bool, false, not, cond, ◌&&◌, ◌||◌, List, [], ◌∷◌, ◌++◌, ltb, leb, eqb, length, drop}
+use Rattle.std.specs.Prelude.{ℕ, ◌-◌, ◌%◌, Bool, false, not, cond, ◌&&◌, ◌||◌, List, [], ◌∷◌, ◌++◌, ltb, leb, eqb, length, drop, Result, Option, Err, None}
 use Rattle.words.specs.declared.Service.TheVariants.{ShortMessage}
 use Rattle.words.specs.declared.Refusal.TheVariants.{WrongLength, WrongHeader, NoRoom}
 use Rattle.words.specs.Sizes.{most_octets}
@@ -25,12 +25,12 @@ use Rattle.coding.specs.Holding.{is_ucs2, text_rules}
 use Rattle.letters.specs.Reading.{text_of}
 use Rattle.stream.specs.SeptetCalls.{septets_fit}
 use Rattle.stream.specs.Ucs2.{octet_units}
-use Rattle.headed.specs.declared.Concatenation.{Concatenation}
-use Rattle.headed.specs.declared.Concatenation.TheVariants.{Absent}
 use Rattle.headed.specs.Header.{header_size, right_header, header_numbers, septets_over}
 use Rattle.parted.specs.declared.PartRead.{PartRead}
-use Rattle.parted.specs.declared.PartRead.TheVariants.{Done, Refused}
 use Rattle.parted.specs.Behind.{unpacked_behind}
+use Rattle.words.specs.declared.Refusal.{Refusal}
+use Rattle.headed.specs.declared.Numbers.{Numbers}
+use Rattle.parted.specs.Successes.{ok_part_read}
 
 unfoldable pub count_fits : Bool → ℕ → ℕ → Bool
 count_fits ucs2 octets count = cond ucs2 (leb octets (most_octets ShortMessage) && eqb count octets) (septets_fit ShortMessage octets count)
@@ -53,8 +53,8 @@ shown_as ucs2 s = cond ucs2 s (text_of s)
 abbrev pub text_behind : Bool → ℕ → ℕ → List ℕ → List ℕ
 text_behind ucs2 h count o = shown_as ucs2 (content_behind ucs2 h count o)
 
-abbrev pub marked_numbers : Bool → List ℕ → Concatenation
-marked_numbers marked o = cond marked (header_numbers o) Absent
+abbrev pub marked_numbers : Bool → List ℕ → Option Numbers
+marked_numbers marked o = cond marked (header_numbers o) None
 
 -- 4, 12, 4, 7
 unfoldable pub behind_rules : Bool → Bool → ℕ → List ℕ → ℕ → List Rule
@@ -68,10 +68,10 @@ behind_rules ucs2 marked count o room =
 unfoldable pub part_read_rules : Reading → Bool → ℕ → List ℕ → ℕ → List Rule
 part_read_rules r marked count o room = text_rules ShortMessage r ++ behind_rules (is_ucs2 r.alphabet) marked count o room
 
-unfoldable pub part_reads : ℕ → Bool → ℕ → List ℕ → ℕ → PartRead
+unfoldable pub part_reads : ℕ → Bool → ℕ → List ℕ → ℕ → Result PartRead Refusal
 part_reads coding marked count o room =
-    settle (verdict (part_read_rules (read_under ShortMessage coding) marked count o room)) Refused
-    (Done (length (text_behind (is_ucs2 (read_under ShortMessage coding).alphabet) (head_size marked o) count o)) (read_under ShortMessage coding) (marked_numbers marked o))
+    settle (verdict (part_read_rules (read_under ShortMessage coding) marked count o room)) Err
+    (ok_part_read (length (text_behind (is_ucs2 (read_under ShortMessage coding).alphabet) (head_size marked o) count o)) (read_under ShortMessage coding) (marked_numbers marked o))
 
 unfoldable pub part_read_leaves : ℕ → Bool → ℕ → List ℕ → List ℕ → List ℕ
 part_read_leaves coding marked count o out =

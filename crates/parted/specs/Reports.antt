@@ -6,127 +6,121 @@
 --   parts_number, parts_position, parts_written, parts_marked, parts_coding, parts_parts         == what write_parts reports
 --   read_number, read_position, read_written, read_reading, read_numbers                         == what read_part reports
 --   join_number, join_position, join_written, join_reading, join_reference, join_parts           == what join_parts reports
-use Rattle.std.specs.Prelude.{ℕ, Bool, false}
+use Rattle.std.specs.Prelude.{ℕ, Bool, false, Result, Option, Ok, Err, None}
 use Rattle.words.specs.Refusals.{number_of, position_of}
 use Rattle.coding.specs.declared.Reading.{Reading}
 use Rattle.coding.specs.Readings.{unmentioned}
-use Rattle.headed.specs.declared.Concatenation.{Concatenation}
-use Rattle.headed.specs.declared.Concatenation.TheVariants.{Absent}
-use Rattle.parted.specs.declared.Counted.{Counted}
-use Rattle.parted.specs.declared.Counted.TheVariants as counted
 use Rattle.parted.specs.declared.PartWritten.{PartWritten}
-use Rattle.parted.specs.declared.PartWritten.TheVariants as part
 use Rattle.parted.specs.declared.PartsWritten.{PartsWritten}
-use Rattle.parted.specs.declared.PartsWritten.TheVariants as parts
 use Rattle.parted.specs.declared.PartRead.{PartRead}
-use Rattle.parted.specs.declared.PartRead.TheVariants as read
 use Rattle.parted.specs.declared.PartsJoined.{PartsJoined}
-use Rattle.parted.specs.declared.PartsJoined.TheVariants as joined
+use Rattle.words.specs.declared.Refusal.{Refusal}
+use Rattle.headed.specs.declared.Numbers.{Numbers}
 
-abbrev pub counted_number : Counted → ℕ
-counted_number (counted.Parts n) = 0
-counted_number (counted.Refused q) = number_of q
+abbrev pub counted_number : Result ℕ Refusal → ℕ
+counted_number (Ok n) = 0
+counted_number (Err q) = number_of q
 
-abbrev pub counted_position : Counted → ℕ
-counted_position (counted.Parts n) = 0
-counted_position (counted.Refused q) = position_of q
+abbrev pub counted_position : Result ℕ Refusal → ℕ
+counted_position (Ok n) = 0
+counted_position (Err q) = position_of q
 
-abbrev pub counted_parts : Counted → ℕ
-counted_parts (counted.Parts n) = n
-counted_parts (counted.Refused q) = 0
+abbrev pub counted_parts : Result ℕ Refusal → ℕ
+counted_parts (Ok n) = n
+counted_parts (Err q) = 0
 
-abbrev pub part_number : PartWritten → ℕ
-part_number (part.Done octets count marked coding parts) = 0
-part_number (part.Refused q) = number_of q
+abbrev pub part_number : Result PartWritten Refusal → ℕ
+part_number (Ok m) = 0
+part_number (Err q) = number_of q
 
-abbrev pub part_position : PartWritten → ℕ
-part_position (part.Done octets count marked coding parts) = 0
-part_position (part.Refused q) = position_of q
+abbrev pub part_position : Result PartWritten Refusal → ℕ
+part_position (Ok m) = 0
+part_position (Err q) = position_of q
 
-abbrev pub part_written : PartWritten → ℕ
-part_written (part.Done octets count marked coding parts) = octets
-part_written (part.Refused q) = 0
+abbrev pub part_written : Result PartWritten Refusal → ℕ
+part_written (Ok m) = m.octets
+part_written (Err q) = 0
 
-abbrev pub part_travels : PartWritten → ℕ
-part_travels (part.Done octets count marked coding parts) = count
-part_travels (part.Refused q) = 0
+abbrev pub part_travels : Result PartWritten Refusal → ℕ
+part_travels (Ok m) = m.count
+part_travels (Err q) = 0
 
-abbrev pub part_marked : PartWritten → Bool
-part_marked (part.Done octets count marked coding parts) = marked
-part_marked (part.Refused q) = false
+abbrev pub part_marked : Result PartWritten Refusal → Bool
+part_marked (Ok m) = m.marked
+part_marked (Err q) = false
 
-abbrev pub part_coding : PartWritten → ℕ
-part_coding (part.Done octets count marked coding parts) = coding
-part_coding (part.Refused q) = 0
+abbrev pub part_coding : Result PartWritten Refusal → ℕ
+part_coding (Ok m) = m.coding
+part_coding (Err q) = 0
 
-abbrev pub part_parts : PartWritten → ℕ
-part_parts (part.Done octets count marked coding parts) = parts
-part_parts (part.Refused q) = 0
+abbrev pub part_parts : Result PartWritten Refusal → ℕ
+part_parts (Ok m) = m.parts
+part_parts (Err q) = 0
 
-abbrev pub parts_number : PartsWritten → ℕ
-parts_number (parts.Done octets marked coding n) = 0
-parts_number (parts.Refused q) = number_of q
+abbrev pub parts_number : Result PartsWritten Refusal → ℕ
+parts_number (Ok m) = 0
+parts_number (Err q) = number_of q
 
-abbrev pub parts_position : PartsWritten → ℕ
-parts_position (parts.Done octets marked coding n) = 0
-parts_position (parts.Refused q) = position_of q
+abbrev pub parts_position : Result PartsWritten Refusal → ℕ
+parts_position (Ok m) = 0
+parts_position (Err q) = position_of q
 
-abbrev pub parts_written : PartsWritten → ℕ
-parts_written (parts.Done octets marked coding n) = octets
-parts_written (parts.Refused q) = 0
+abbrev pub parts_written : Result PartsWritten Refusal → ℕ
+parts_written (Ok m) = m.octets
+parts_written (Err q) = 0
 
-abbrev pub parts_marked : PartsWritten → Bool
-parts_marked (parts.Done octets marked coding n) = marked
-parts_marked (parts.Refused q) = false
+abbrev pub parts_marked : Result PartsWritten Refusal → Bool
+parts_marked (Ok m) = m.marked
+parts_marked (Err q) = false
 
-abbrev pub parts_coding : PartsWritten → ℕ
-parts_coding (parts.Done octets marked coding n) = coding
-parts_coding (parts.Refused q) = 0
+abbrev pub parts_coding : Result PartsWritten Refusal → ℕ
+parts_coding (Ok m) = m.coding
+parts_coding (Err q) = 0
 
-abbrev pub parts_parts : PartsWritten → ℕ
-parts_parts (parts.Done octets marked coding n) = n
-parts_parts (parts.Refused q) = 0
+abbrev pub parts_parts : Result PartsWritten Refusal → ℕ
+parts_parts (Ok m) = m.parts
+parts_parts (Err q) = 0
 
-abbrev pub read_number : PartRead → ℕ
-read_number (read.Done units reading concatenation) = 0
-read_number (read.Refused q) = number_of q
+abbrev pub read_number : Result PartRead Refusal → ℕ
+read_number (Ok m) = 0
+read_number (Err q) = number_of q
 
-abbrev pub read_position : PartRead → ℕ
-read_position (read.Done units reading concatenation) = 0
-read_position (read.Refused q) = position_of q
+abbrev pub read_position : Result PartRead Refusal → ℕ
+read_position (Ok m) = 0
+read_position (Err q) = position_of q
 
-abbrev pub read_written : PartRead → ℕ
-read_written (read.Done units reading concatenation) = units
-read_written (read.Refused q) = 0
+abbrev pub read_written : Result PartRead Refusal → ℕ
+read_written (Ok m) = m.units
+read_written (Err q) = 0
 
-abbrev pub read_reading : PartRead → Reading
-read_reading (read.Done units reading concatenation) = reading
-read_reading (read.Refused q) = unmentioned
+abbrev pub read_reading : Result PartRead Refusal → Reading
+read_reading (Ok m) = m.reading
+read_reading (Err q) = unmentioned
 
-abbrev pub read_numbers : PartRead → Concatenation
-read_numbers (read.Done units reading concatenation) = concatenation
-read_numbers (read.Refused q) = Absent
+abbrev pub read_numbers : Result PartRead Refusal → Option Numbers
+read_numbers (Ok m) = m.concatenation
+read_numbers (Err q) = None
 
-abbrev pub join_number : PartsJoined → ℕ
-join_number (joined.Done units reading reference parts) = 0
-join_number (joined.Refused q) = number_of q
+abbrev pub join_number : Result PartsJoined Refusal → ℕ
+join_number (Ok m) = 0
+join_number (Err q) = number_of q
 
-abbrev pub join_position : PartsJoined → ℕ
-join_position (joined.Done units reading reference parts) = 0
-join_position (joined.Refused q) = position_of q
+abbrev pub join_position : Result PartsJoined Refusal → ℕ
+join_position (Ok m) = 0
+join_position (Err q) = position_of q
 
-abbrev pub join_written : PartsJoined → ℕ
-join_written (joined.Done units reading reference parts) = units
-join_written (joined.Refused q) = 0
+abbrev pub join_written : Result PartsJoined Refusal → ℕ
+join_written (Ok m) = m.units
+join_written (Err q) = 0
 
-abbrev pub join_reading : PartsJoined → Reading
-join_reading (joined.Done units reading reference parts) = reading
-join_reading (joined.Refused q) = unmentioned
+abbrev pub join_reading : Result PartsJoined Refusal → Reading
+join_reading (Ok m) = m.reading
+join_reading (Err q) = unmentioned
 
-abbrev pub join_reference : PartsJoined → ℕ
-join_reference (joined.Done units reading reference parts) = reference
-join_reference (joined.Refused q) = 0
+abbrev pub join_reference : Result PartsJoined Refusal → ℕ
+join_reference (Ok m) = m.reference
+join_reference (Err q) = 0
 
-abbrev pub join_parts : PartsJoined → ℕ
-join_parts (joined.Done units reading reference parts) = parts
-join_parts (joined.Refused q) = 0
+abbrev pub join_parts : Result PartsJoined Refusal → ℕ
+join_parts (Ok m) = m.parts
+join_parts (Err q) = 0

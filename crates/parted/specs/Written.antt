@@ -9,7 +9,7 @@
 --   size_rules, count_rules, count_answers           == what refuses to count the parts of a text, and what count_parts answers
 --   part_rules, part_answers, part_leaves            == the same of write_part, and what it leaves in the lent buffer
 --   all_rules, all_answers, all_leaves, sizes_leaves == the same of write_parts, and what it leaves in the two lent buffers
-use Rattle.std.specs.Prelude.{ℕ, zero, suc, Bool, ◌||◌, List, [], ◌∷◌, ◌++◌, ltb, length}
+use Rattle.std.specs.Prelude.{ℕ, zero, suc, Bool, ◌||◌, List, [], ◌∷◌, ◌++◌, ltb, length, Result, Ok, Err}
 use Rattle.words.specs.declared.Service.TheVariants.{ShortMessage}
 use Rattle.words.specs.declared.Refusal.TheVariants.{Unlisted, TooLong, NoRoom, WrongPages}
 use Rattle.words.specs.Judging.{Rule, when, verdict, settle}
@@ -21,13 +21,12 @@ use Rattle.coding.specs.Holding.{is_ucs2, text_rules}
 use Rattle.letters.specs.Writing.{first_unlisted}
 use Rattle.letters.specs.Sized.{content_of, not_codable}
 use Rattle.filling.specs.Numbered.{lacks}
-use Rattle.parted.specs.declared.Counted.{Counted}
-use Rattle.parted.specs.declared.Counted.TheVariants as counted
 use Rattle.parted.specs.declared.PartWritten.{PartWritten}
-use Rattle.parted.specs.declared.PartWritten.TheVariants as part
 use Rattle.parted.specs.declared.PartsWritten.{PartsWritten}
-use Rattle.parted.specs.declared.PartsWritten.TheVariants as parts
 use Rattle.parted.specs.Parts.{most_parts, parts_of, is_marked, part_octets, part_count}
+use Rattle.words.specs.declared.Refusal.{Refusal}
+use Rattle.parted.specs.Successes.{ok_parts_written}
+use Rattle.parted.specs.Successes.{ok_part_written}
 
 abbrev pub reading_parts : Reading → List ℕ → ℕ
 reading_parts r units = parts_of (is_ucs2 r.alphabet) units
@@ -69,8 +68,8 @@ size_rules ucs2 units =
 unfoldable pub count_rules : Reading → List ℕ → List Rule
 count_rules r units = coding_rules ShortMessage r ++ (text_rules ShortMessage r ++ size_rules (is_ucs2 r.alphabet) units)
 
-unfoldable pub count_answers : Reading → List ℕ → Counted
-count_answers r units = settle (verdict (count_rules r units)) counted.Refused (counted.Parts (reading_parts r units))
+unfoldable pub count_answers : Reading → List ℕ → Result ℕ Refusal
+count_answers r units = settle (verdict (count_rules r units)) Err (Ok (reading_parts r units))
 
 unfoldable pub part_rules : Reading → ℕ → List ℕ → ℕ → ℕ → List Rule
 part_rules r reference units k room =
@@ -79,10 +78,10 @@ part_rules r reference units k room =
     ∷ when (ltb room (length (octets_as r reference units k))) NoRoom
     ∷ [])
 
-unfoldable pub part_answers : Reading → ℕ → List ℕ → ℕ → ℕ → PartWritten
+unfoldable pub part_answers : Reading → ℕ → List ℕ → ℕ → ℕ → Result PartWritten Refusal
 part_answers r reference units k room =
-    settle (verdict (part_rules r reference units k room)) part.Refused
-    (part.Done (length (octets_as r reference units k)) (count_as r reference units k) (is_marked (reading_parts r units)) (smallest ShortMessage r)
+    settle (verdict (part_rules r reference units k room)) Err
+    (ok_part_written (length (octets_as r reference units k)) (count_as r reference units k) (is_marked (reading_parts r units)) (smallest ShortMessage r)
     (reading_parts r units))
 
 unfoldable pub part_leaves : Reading → ℕ → List ℕ → ℕ → List ℕ → List ℕ
@@ -95,10 +94,10 @@ all_rules r reference units room list =
     ++ (when (ltb room (length (octets_of_all r reference units)) || ltb list (length (sizes_of_all r reference units))) NoRoom
     ∷ [])
 
-unfoldable pub all_answers : Reading → ℕ → List ℕ → ℕ → ℕ → PartsWritten
+unfoldable pub all_answers : Reading → ℕ → List ℕ → ℕ → ℕ → Result PartsWritten Refusal
 all_answers r reference units room list =
-    settle (verdict (all_rules r reference units room list)) parts.Refused
-    (parts.Done (length (octets_of_all r reference units)) (is_marked (reading_parts r units)) (smallest ShortMessage r) (reading_parts r units))
+    settle (verdict (all_rules r reference units room list)) Err
+    (ok_parts_written (length (octets_of_all r reference units)) (is_marked (reading_parts r units)) (smallest ShortMessage r) (reading_parts r units))
 
 unfoldable pub all_leaves : Reading → ℕ → List ℕ → ℕ → List ℕ → List ℕ
 all_leaves r reference units list out =

@@ -2,16 +2,8 @@
 #![tactic(auto)]
 
 use coding::Reading;
-use headed::Concatenation;
+use headed::Numbers;
 use words::Refusal;
-
-// How many parts a text takes.
-#[derive(Clone, Copy)]
-pub enum Counted {
-    Parts(usize),
-    // Why it takes none.
-    Refused(Refusal),
-}
 
 // How a text is cut into parts.
 #[derive(Clone, Copy)]
@@ -25,96 +17,71 @@ pub struct Plan {
     pub content: usize,
 }
 
-// What planning a text answers.
-#[derive(Clone, Copy)]
-pub enum Planned {
-    Parts(Plan),
-    // Why it takes none.
-    Refused(Refusal),
-}
-
 // What writing one part answers.
 #[derive(Clone, Copy)]
-pub enum PartWritten {
-    // How many octets it stored at the front of the lent buffer, the count that travels with them, whether a header stands in front, the data coding
-    // octet, and how many parts the message has.
-    Done {
-        octets: usize,
-        count: usize,
-        marked: bool,
-        coding: u8,
-        parts: usize,
-    },
-    // Why it stored none.
-    Refused(Refusal),
+pub struct PartWritten {
+    // How many octets it stored at the front of the lent buffer.
+    pub octets: usize,
+    // The count that travels with them.
+    pub count: usize,
+    // Whether a header stands in front.
+    pub marked: bool,
+    // The data coding octet.
+    pub coding: u8,
+    // How many parts the message has.
+    pub parts: usize,
 }
 
 // What writing all parts answers.
 #[derive(Clone, Copy)]
-pub enum PartsWritten {
-    // How many octets it stored at the front of the first lent buffer, whether a header stands in front of each part, the data coding octet, and how
-    // many parts the octets are. In the second buffer each has two octets: its count, and how many octets it has.
-    Done {
-        octets: usize,
-        marked: bool,
-        coding: u8,
-        parts: usize,
-    },
-    // Why it stored none.
-    Refused(Refusal),
+pub struct PartsWritten {
+    // How many octets it stored at the front of the first lent buffer. In the second each part has two octets: its count, and how many octets it has.
+    pub octets: usize,
+    // Whether a header stands in front of each part.
+    pub marked: bool,
+    // The data coding octet.
+    pub coding: u8,
+    // How many parts the octets are.
+    pub parts: usize,
 }
 
 // What reading one part, or a message that is none, answers.
 #[derive(Clone, Copy)]
-pub enum PartRead {
-    // How many units it stored at the front of the lent buffer, what the coding octet says, and the numbers that the header gives.
-    Done {
-        units: usize,
-        reading: Reading,
-        concatenation: Concatenation,
-    },
-    // Why it stored none.
-    Refused(Refusal),
+pub struct PartRead {
+    // How many units it stored at the front of the lent buffer.
+    pub units: usize,
+    // What the coding octet says.
+    pub reading: Reading,
+    // The numbers that the header gives.
+    pub concatenation: Option<Numbers>,
 }
 
 // What reading a text behind a header, or without one, answers, by itself.
 #[derive(Clone, Copy)]
-pub enum TextRead {
-    // How many units it stored at the front of the lent buffer, and the numbers that the header gives.
-    Done {
-        units: usize,
-        concatenation: Concatenation,
-    },
-    // Why it stored none.
-    Refused(Refusal),
+pub struct TextRead {
+    // How many units it stored at the front of the lent buffer.
+    pub units: usize,
+    // The numbers that the header gives.
+    pub concatenation: Option<Numbers>,
 }
 
 // What joining parts answers.
 #[derive(Clone, Copy)]
-pub enum PartsJoined {
-    // How many units it stored at the front of the lent buffer, what the coding octet says, the reference, and how many parts the message has.
-    Done {
-        units: usize,
-        reading: Reading,
-        reference: u8,
-        parts: usize,
-    },
-    // Why it stored none.
-    Refused(Refusal),
-}
-
-// Whether parts are those of one message.
-#[derive(Clone, Copy)]
-pub enum PartsJudged {
-    Right,
-    // Why they are not.
-    Refused(Refusal),
+pub struct PartsJoined {
+    // How many units it stored at the front of the lent buffer.
+    pub units: usize,
+    // What the coding octet says.
+    pub reading: Reading,
+    // The reference that the parts share.
+    pub reference: u8,
+    // How many parts the message has.
+    pub parts: usize,
 }
 
 // What putting parts in order answers.
 #[derive(Clone, Copy)]
 pub struct PartOrder {
-    pub judged: PartsJudged,
+    pub judged: Result<(), Refusal>,
     // The reference that they share, and 0 where they are refused.
     pub reference: u8,
 }

@@ -18,9 +18,9 @@ ghost use Rattle.parted.proofs.WriteSteps.{Placed, Blank, LaidPart, laid_at};
 
 use coding::Reading;
 use headed::Numbers;
-use parted::{Counted, PartWritten, PartsWritten, Plan, Planned};
+use parted::{PartWritten, PartsWritten, Plan};
 use words::{Refusal, Service};
-use writer::{Settled, TextCoding};
+use writer::TextCoding;
 
 // Where a part begins in a text: at a unit, or behind the escape of one.
 #[derive(Clone, Copy)]
@@ -32,22 +32,22 @@ struct Place {
 // How many parts a text takes under a reading.
 // Refuses a reading that cannot be written for a short message (8), compressed text (1), a coding that holds no text (2), a unit that is not in the
 // alphabet (6, the first), more than 255 parts (5).
-pub fn count_parts(reading: Reading, units: &[u16]) -> Counted
+pub fn count_parts(reading: Reading, units: &[u16]) -> Result<usize, Refusal>
     ensures answer { result ≡ count_answers reading units.now }
 {
     match writer::settle(Service::ShortMessage, reading) {
-        Settled::Text(coding) => counted(cutting::plan(coding.ucs2(), units)),
-        Settled::Refused(refusal) => Counted::Refused(refusal),
+        Ok(coding) => counted(cutting::plan(coding.ucs2(), units)),
+        Err(refusal) => Err(refusal),
     }
 }
 
 // How many parts a plan has.
-fn counted(planned: Planned) -> Counted
+fn counted(planned: Result<Plan, Refusal>) -> Result<usize, Refusal>
     ensures { result ≡ counted_as planned }
 {
     match planned {
-        Planned::Parts(plan) => Counted::Parts(plan.total),
-        Planned::Refused(refusal) => Counted::Refused(refusal),
+        Ok(plan) => Ok(plan.total),
+        Err(refusal) => Err(refusal),
     }
 }
 
@@ -61,13 +61,13 @@ pub fn write_part(
     units: &[u16],
     number: usize,
     out: &mut [u8],
-) -> PartWritten
+) -> Result<PartWritten, Refusal>
     ensures answer { result ≡ part_answers reading reference units.now number (length out.old) }
     ensures buffer { out.new ≡ part_leaves reading reference units.now number out.old }
 {
     match writer::settle(Service::ShortMessage, reading) {
-        Settled::Text(coding) => write_one(coding, reference, units, number, out),
-        Settled::Refused(refusal) => PartWritten::Refused(refusal),
+        Ok(coding) => write_one(coding, reference, units, number, out),
+        Err(refusal) => Err(refusal),
     }
 }
 
@@ -78,30 +78,30 @@ fn write_one(
     units: &[u16],
     number: usize,
     out: &mut [u8],
-) -> PartWritten
+) -> Result<PartWritten, Refusal>
     ensures answer { result ≡ text_part coding.ucs2 coding.octet reference units.now number (length out.old) }
     ensures buffer { out.new ≡ text_part_leaves coding.ucs2 reference units.now number out.old }
 {
     match cutting::plan(coding.ucs2(), units) {
-        Planned::Parts(plan) => {
+        Ok(plan) => {
             if number == 0 || plan.total < number {
-                return PartWritten::Refused(Refusal::WrongPages);
+                return Err(Refusal::WrongPages);
             }
             let k = (number - 1) as u8;
             let size = part_size(plan, k);
             if out.len() < size.octets {
-                return PartWritten::Refused(Refusal::NoRoom);
+                return Err(Refusal::NoRoom);
             }
             put_one(plan, reference, units, k, out);
-            PartWritten::Done {
+            Ok(PartWritten {
                 octets: size.octets,
                 count: size.count,
                 marked: plan.total != 1,
                 coding: coding.octet(),
                 parts: plan.total,
-            }
+            })
         }
-        Planned::Refused(refusal) => PartWritten::Refused(refusal),
+        Err(refusal) => Err(refusal),
     }
 }
 
@@ -114,14 +114,14 @@ pub fn write_parts(
     units: &[u16],
     out: &mut [u8],
     sizes: &mut [u8],
-) -> PartsWritten
+) -> Result<PartsWritten, Refusal>
     ensures answer { result ≡ all_answers reading reference units.now (length out.old) (length sizes.old) }
     ensures buffer { out.new ≡ all_leaves reading reference units.now (length sizes.old) out.old }
     ensures sizes { sizes.new ≡ sizes_leaves reading reference units.now (length out.old) sizes.old }
 {
     match writer::settle(Service::ShortMessage, reading) {
-        Settled::Text(coding) => write_all(coding, reference, units, out, sizes),
-        Settled::Refused(refusal) => PartsWritten::Refused(refusal),
+        Ok(coding) => write_all(coding, reference, units, out, sizes),
+        Err(refusal) => Err(refusal),
     }
 }
 
@@ -132,29 +132,29 @@ fn write_all(
     units: &[u16],
     out: &mut [u8],
     sizes: &mut [u8],
-) -> PartsWritten
+) -> Result<PartsWritten, Refusal>
     ensures answer { result ≡ text_parts coding.ucs2 coding.octet reference units.now (length out.old) (length sizes.old) }
     ensures buffer { out.new ≡ text_parts_leaves coding.ucs2 reference units.now (length sizes.old) out.old }
     ensures sizes { sizes.new ≡ text_sizes_leaves coding.ucs2 reference units.now (length out.old) sizes.old }
 {
     match cutting::plan(coding.ucs2(), units) {
-        Planned::Parts(plan) => {
+        Ok(plan) => {
             let octets = all_octets(plan);
             if out.len() < octets {
-                return PartsWritten::Refused(Refusal::NoRoom);
+                return Err(Refusal::NoRoom);
             }
             if sizes.len() < 2 * plan.total {
-                return PartsWritten::Refused(Refusal::NoRoom);
+                return Err(Refusal::NoRoom);
             }
             put_all(plan, reference, units, out, sizes);
-            PartsWritten::Done {
+            Ok(PartsWritten {
                 octets: octets,
                 marked: plan.total != 1,
                 coding: coding.octet(),
                 parts: plan.total,
-            }
+            })
         }
-        Planned::Refused(refusal) => PartsWritten::Refused(refusal),
+        Err(refusal) => Err(refusal),
     }
 }
 
@@ -309,7 +309,7 @@ fn put_units(total: usize, numbers: Numbers, units: &[u16], out: &mut [u8])
     ensures { out.new ≡ laid (headed_octets true (cond (is_marked total) (concatenation_header numbers) []) units.now) out.old }
 {
     let size = mark_size(total);
-    from_units::short_octets(units, &mut out[size..]);
+    let _ = from_units::short_octets(units, &mut out[size..]);
     put_header(total, numbers, out);
 }
 

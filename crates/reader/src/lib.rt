@@ -7,10 +7,10 @@ ghost use Rattle.letters.specs.Reading.{read_as, text_answers, text_leaves};
 ghost use Rattle.demands.specs.MessageRead.{text_reads, text_read_leaves, lettered_as, page_reads, page_read_leaves, read_answers, read_leaves};
 ghost use Rattle.demands.specs.Inner.{held_reads, held_read_leaves, shown_as};
 
-use coding::{Held, OctetRead, Reading};
+use coding::{Held, Reading};
 use demands::MessageRead;
 use lettered::LetteredRead;
-use words::{Filled, Service};
+use words::{Refusal, Service};
 
 // Reads a message: the units of its text and what its coding octet says.
 // Refuses compressed text (1), a coding that holds no text (2), a header mark, or a prefix mark but on a broadcast page (3), octets that do not fit the
@@ -22,43 +22,32 @@ pub fn read_message(
     count: usize,
     octets: &[u8],
     out: &mut [u16],
-) -> MessageRead
+) -> Result<MessageRead, Refusal>
     ensures answer { result ≡ read_answers service coding count octets.now (length out.old) }
     ensures buffer { out.new ≡ read_leaves service coding count octets.now out.old }
 {
-    match coding::read_octet(service, coding) {
-        OctetRead::Done(reading) => {
-            if reading.lettered(service) {
-                return read_page(reading, count, octets, out);
-            }
-            read_held(service, reading, count, octets, out)
-        }
-        OctetRead::Refused(refusal) => MessageRead::Refused(refusal),
+    let reading = coding::read_octet(service, coding)?;
+    if reading.lettered(service) {
+        return read_page(reading, count, octets, out);
     }
+    read_held(service, reading, count, octets, out)
 }
 
 // The reader of a broadcast page behind the letters of its language: 4, 11, 7.
-fn read_page(reading: Reading, count: usize, octets: &[u8], out: &mut [u16]) -> MessageRead
+fn read_page(
+    reading: Reading,
+    count: usize,
+    octets: &[u8],
+    out: &mut [u16],
+) -> Result<MessageRead, Refusal>
     ensures answer { result ≡ page_reads reading count octets.now (length out.old) }
     ensures buffer { out.new ≡ page_read_leaves reading count octets.now out.old }
 {
-    page_shown(
-        reading,
-        lettering::read_lettered(reading.is_ucs2(), count, octets, out),
-    )
-}
-
-// The answer of reading such a page, with the letters in the reading.
-fn page_shown(reading: Reading, answer: LetteredRead) -> MessageRead
-    ensures { result ≡ lettered_as reading answer }
-{
-    match answer {
-        LetteredRead::Done { units, letters } => MessageRead::Done {
-            units: units,
-            reading: reading.with_letters(letters),
-        },
-        LetteredRead::Refused(refusal) => MessageRead::Refused(refusal),
-    }
+    let page = lettering::read_lettered(reading.is_ucs2(), count, octets, out)?;
+    Ok(MessageRead {
+        units: page.units,
+        reading: reading.with_letters(page.letters),
+    })
 }
 
 // The reader of a text by itself behind the coding octet.
@@ -68,25 +57,16 @@ fn read_held(
     count: usize,
     octets: &[u8],
     out: &mut [u16],
-) -> MessageRead
+) -> Result<MessageRead, Refusal>
     ensures answer { result ≡ held_reads service reading count octets.now (length out.old) }
     ensures buffer { out.new ≡ held_read_leaves service reading count octets.now out.old }
 {
-    match reading.holds(service) {
-        Held::Septets => shown(reading, read_text(service, false, count, octets, out)),
-        Held::Units => shown(reading, read_text(service, true, count, octets, out)),
-        Held::Refused(refusal) => MessageRead::Refused(refusal),
-    }
-}
-
-// The answer of reading text, with the reading.
-fn shown(reading: Reading, answer: Filled) -> MessageRead
-    ensures { result ≡ shown_as reading answer }
-{
-    match answer {
-        Filled::Done(units) => MessageRead::Done { units, reading },
-        Filled::Refused(refusal) => MessageRead::Refused(refusal),
-    }
+    let ucs2 = match reading.holds(service)? {
+        Held::Septets => false,
+        Held::Units => true,
+    };
+    let units = read_text(service, ucs2, count, octets, out)?;
+    Ok(MessageRead { units, reading })
 }
 
 // Reads a text by itself, as 7-bit text or as UCS2, where the coding octet is known: how many units it has.
@@ -98,7 +78,7 @@ pub fn read_text(
     count: usize,
     octets: &[u8],
     out: &mut [u16],
-) -> Filled
+) -> Result<usize, Refusal>
     ensures answer { result ≡ text_reads service ucs2 count octets.now (length out.old) }
     ensures buffer { out.new ≡ text_read_leaves service ucs2 count octets.now out.old }
 {
@@ -109,22 +89,18 @@ pub fn read_text(
 }
 
 // 7-bit text: the octets unpacked into septets of our own, and those read by the alphabet of the service.
-fn read_septets(service: Service, count: usize, octets: &[u8], out: &mut [u16]) -> Filled
+fn read_septets(service: Service, count: usize, octets: &[u8], out: &mut [u16]) -> Result<usize, Refusal>
     ensures answer { result ≡ text_reads service false count octets.now (length out.old) }
     ensures buffer { out.new ≡ text_read_leaves service false count octets.now out.old }
 {
     let mut septets = [0u8; 184];
-    match packing::unpack_all(service, octets, count, &mut septets) {
-        Filled::Done(all) => {
-            let n = closing::text_length(service, &septets[..all]);
-            read_run(service, &septets[..n], out)
-        }
-        Filled::Refused(refusal) => Filled::Refused(refusal),
-    }
+    let all = packing::unpack_all(service, octets, count, &mut septets)?;
+    let n = closing::text_length(service, &septets[..all]);
+    read_run(service, &septets[..n], out)
 }
 
 // The septets of a text, read by the alphabet of the service.
-fn read_run(service: Service, septets: &[u8], out: &mut [u16]) -> Filled
+fn read_run(service: Service, septets: &[u8], out: &mut [u16]) -> Result<usize, Refusal>
     ensures answer { result ≡ text_answers septets.now (read_as (is_old_page service) septets.now) (length out.old) }
     ensures buffer { out.new ≡ text_leaves septets.now (read_as (is_old_page service) septets.now) out.old }
 {

@@ -12,8 +12,6 @@ use lib.ListN.{length, get_or, take, drop, get_or-eq_default}
 use lib.Seq.{take_all, take_at, take-append-le}
 use Rattle.words.specs.declared.Service.{Service}
 use Rattle.words.specs.declared.Service.TheVariants.{ShortMessage, Broadcast, Ussd, OldPage}
-use Rattle.words.specs.declared.Filled.{Filled}
-use Rattle.words.specs.declared.Filled.TheVariants.{Done, Refused}
 use Rattle.words.specs.declared.Refusal.{Refusal}
 use Rattle.words.specs.declared.Refusal.TheVariants.{NoRoom, WrongLength}
 use Rattle.words.specs.Sizes.{most_septets, most_units, is_old_page}
@@ -23,7 +21,6 @@ use Rattle.lists.proofs.Below.{Below}
 use Rattle.lists.proofs.Places.{place-before}
 use Rattle.lists.proofs.Laid.{laid-length}
 use Rattle.lists.proofs.Tests.{and_left, and_right}
-use Rattle.stream.specs.declared.Packed.TheVariants as answers
 use Rattle.stream.specs.Stream.{octets_for, packed}
 use Rattle.stream.specs.SeptetCalls.{octets_of, travels, count_of, pack_rules, pack_answers, pack_leaves, septets_fit, septets_of, unpack_rules, unpack_answers, unpack_leaves}
 use Rattle.stream.specs.UnitCalls.{ucs2_octets_of, to_octets_rules, to_octets_answers, to_octets_leaves, units_fit, units_of, to_units_rules, to_units_answers, to_units_leaves}
@@ -33,47 +30,49 @@ use Rattle.stream.proofs.Stream.{unpacked-length}
 use Rattle.stream.specs.ArrayCalls.{low_bits, array_rules, array_answers, array_leaves, page_rules, page_answers, page_leaves, all_septets, all_rules, all_answers, all_leaves, held_count}
 use Rattle.stream.proofs.Given.{Gives}
 use Rattle.stream.proofs.Arrays.{kept-front, held-septets}
+use Rattle.std.specs.Prelude.{Result, Ok, Err}
+use Rattle.stream.specs.Successes.{ok_packed}
 
-counted-settled : (b : Bool) (k n : ℕ) → counted_as (settle (verdict (when b NoRoom ∷ [])) Refused (Done k)) n ≡ settle (verdict (when b NoRoom ∷ [])) answers.Refused (answers.Done k n)
+counted-settled : (b : Bool) (k n : ℕ) → counted_as (settle (verdict (when b NoRoom ∷ [])) Err (Ok k)) n ≡ settle (verdict (when b NoRoom ∷ [])) Err (ok_packed k n)
 unfolding verdict
 counted-settled true k n = refl
 counted-settled false k n = refl
 
-pub pack-passed : (service : Service) (s out : List ℕ) {answer : Filled} {left : List ℕ} → is_old_page service ≡ false → length s ≤ first_place (leb 128) s → length s ≤ most_septets service
+pub pack-passed : (service : Service) (s out : List ℕ) {answer : Result ℕ Refusal} {left : List ℕ} → is_old_page service ≡ false → length s ≤ first_place (leb 128) s → length s ≤ most_septets service
     → Gives (octets_of service s) out answer left
     → (counted_as answer (count_of service s) ≡ pack_answers service s (length out)) × (left ≡ pack_leaves service s out)
 unfolding pack_rules pack_answers pack_leaves given_answers given_leaves verdict
 pack-passed service s out old high most gives =
     simp (old, le-ltb _ _ high, le-ltb _ _ most)
-    (ap (λ (a : Filled). counted_as a (count_of service s)) gives.0 ∙ counted-settled (ltb (length out) (length (octets_of service s))) (length (octets_of service s)) (count_of service s), gives.1)
+    (ap (λ (a : Result ℕ Refusal). counted_as a (count_of service s)) gives.0 ∙ counted-settled (ltb (length out) (length (octets_of service s))) (length (octets_of service s)) (count_of service s), gives.1)
 
-pub array-passed : (service : Service) (s : List ℕ) (n : ℕ) (out : List ℕ) {answer : Filled} {left : List ℕ} → is_old_page service ≡ false → n ≤ most_septets service
+pub array-passed : (service : Service) (s : List ℕ) (n : ℕ) (out : List ℕ) {answer : Result ℕ Refusal} {left : List ℕ} → is_old_page service ≡ false → n ≤ most_septets service
     → Gives (octets_of service (take n (low_bits s))) out answer left
     → (counted_as answer (travels service n) ≡ array_answers service s n (length out)) × (left ≡ array_leaves service s n out)
 unfolding array_rules array_answers array_leaves given_answers given_leaves verdict
 array-passed service s n out old most gives =
     let t : List ℕ = take n (low_bits s) in
     simp (old, le-ltb _ _ most)
-    (ap (λ (a : Filled). counted_as a (travels service n)) gives.0 ∙ counted-settled (ltb (length out) (length (octets_of service t))) (length (octets_of service t)) (travels service n), gives.1)
+    (ap (λ (a : Result ℕ Refusal). counted_as a (travels service n)) gives.0 ∙ counted-settled (ltb (length out) (length (octets_of service t))) (length (octets_of service t)) (travels service n), gives.1)
 
-pub page-passed : (p out : List ℕ) {answer : Filled} {left : List ℕ} → length p ≤ first_place (leb 128) p → Gives (packed p) out answer left
+pub page-passed : (p out : List ℕ) {answer : Result ℕ Refusal} {left : List ℕ} → length p ≤ first_place (leb 128) p → Gives (packed p) out answer left
     → (answer ≡ page_answers p (length out)) × (left ≡ page_leaves p out)
 unfolding page_rules page_answers page_leaves given_answers given_leaves verdict
 page-passed p out high gives = simp (le-ltb _ _ high) gives
 
-pub unpack-passed : (service : Service) (o out : List ℕ) (count : ℕ) {answer : Filled} {left : List ℕ} → septets_fit service (length o) count ≡ true
+pub unpack-passed : (service : Service) (o out : List ℕ) (count : ℕ) {answer : Result ℕ Refusal} {left : List ℕ} → septets_fit service (length o) count ≡ true
     → Gives (septets_of service count o) out answer left
     → (answer ≡ unpack_answers service o count (length out)) × (left ≡ unpack_leaves service o count out)
 unfolding unpack_rules unpack_answers unpack_leaves given_answers given_leaves verdict
 unpack-passed service o out count fits gives = simp fits gives
 
-pub to-octets-passed : (service : Service) (us out : List ℕ) {answer : Filled} {left : List ℕ} → is_old_page service ≡ false → length us ≤ most_units service
+pub to-octets-passed : (service : Service) (us out : List ℕ) {answer : Result ℕ Refusal} {left : List ℕ} → is_old_page service ≡ false → length us ≤ most_units service
     → Gives (ucs2_octets_of service us) out answer left
     → (answer ≡ to_octets_answers service us (length out)) × (left ≡ to_octets_leaves service us out)
 unfolding to_octets_rules to_octets_answers to_octets_leaves given_answers given_leaves verdict
 to-octets-passed service us out old most gives = simp (old, le-ltb _ _ most) gives
 
-pub to-units-passed : (service : Service) (o out : List ℕ) (count : ℕ) {answer : Filled} {left : List ℕ} → units_fit service (length o) count ≡ true
+pub to-units-passed : (service : Service) (o out : List ℕ) (count : ℕ) {answer : Result ℕ Refusal} {left : List ℕ} → units_fit service (length o) count ≡ true
     → Gives (units_of service o) out answer left
     → (answer ≡ to_units_answers service o count (length out)) × (left ≡ to_units_leaves service o count out)
 unfolding to_units_rules to_units_answers to_units_leaves given_answers given_leaves verdict
@@ -155,35 +154,35 @@ module _ (service : Service) (o : List ℕ) (count : ℕ) where
 -- what unpacking into an array tells: the octets do not fit, or the septets that are kept stand at its front
 module _ (service : Service) (o : List ℕ) (count : ℕ) (array : List ℕ) (size : length array ≡ 184) where
   fitted : septets_fit service (length o) count ≡ true
-      → (all_answers service o count (length array) ≡ Done (length (all_septets service count o))) × (all_leaves service o count array ≡ laid (all_septets service count o) array)
+      → (all_answers service o count (length array) ≡ Ok (length (all_septets service count o))) × (all_leaves service o count array ≡ laid (all_septets service count o) array)
   unfolding all_rules all_answers all_leaves verdict
   fitted fit =
       let room : length (all_septets service count o) ≤ length array = omega (arith, all_most service o count fit) in
       simp (fit, le-ltb _ _ room) (refl, refl)
 
-  unfitted : septets_fit service (length o) count ≡ false → all_answers service o count (length array) ≡ Refused WrongLength
+  unfitted : septets_fit service (length o) count ≡ false → all_answers service o count (length array) ≡ Err WrongLength
   unfolding all_rules all_answers verdict
   unfitted wrong = simp wrong
 
-  pub array-done : (n : ℕ) → Done n ≡ all_answers service o count (length array) → (septets_fit service (length o) count ≡ true) × (n ≡ length (all_septets service count o))
+  pub array-done : (n : ℕ) → Ok n ≡ all_answers service o count (length array) → (septets_fit service (length o) count ≡ true) × (n ≡ length (all_septets service count o))
   array-done n e = go (septets_fit service (length o) count) refl
     where
       go : (b : Bool) → septets_fit service (length o) count ≡ b → (septets_fit service (length o) count ≡ true) × (n ≡ length (all_septets service count o))
-      go true fit = let same : Done n ≡ Done (length (all_septets service count o)) = e ∙ (fitted fit).0 in (fit, cc)
+      go true fit = let same : Ok n ≡ Ok (length (all_septets service count o)) = e ∙ (fitted fit).0 in (fit, cc)
       go false wrong =
-          let other : Done n ≡ Refused WrongLength = e ∙ unfitted wrong in
+          let other : Ok n ≡ Err WrongLength = e ∙ unfitted wrong in
           let z : ◌≡◌ {A = ℕ} 0 1 = cc in
           absurd (omega arith)
 
-  pub array-refused : (r : Refusal) → Refused r ≡ all_answers service o count (length array) → (septets_fit service (length o) count ≡ false) × (r ≡ WrongLength)
+  pub array-refused : (r : Refusal) → Err r ≡ all_answers service o count (length array) → (septets_fit service (length o) count ≡ false) × (r ≡ WrongLength)
   array-refused r e = go (septets_fit service (length o) count) refl
     where
       go : (b : Bool) → septets_fit service (length o) count ≡ b → (septets_fit service (length o) count ≡ false) × (r ≡ WrongLength)
       go true fit =
-          let other : Refused r ≡ Done (length (all_septets service count o)) = e ∙ (fitted fit).0 in
+          let other : Err r ≡ Ok (length (all_septets service count o)) = e ∙ (fitted fit).0 in
           let z : ◌≡◌ {A = ℕ} 0 1 = cc in
           absurd (omega arith)
-      go false wrong = let same : Refused r ≡ Refused WrongLength = e ∙ unfitted wrong in (wrong, cc)
+      go false wrong = let same : Err r ≡ Err WrongLength = e ∙ unfitted wrong in (wrong, cc)
 
   pub array-length : (left : List ℕ) → septets_fit service (length o) count ≡ true → left ≡ all_leaves service o count array → length left ≡ 184
   array-length left fit e =

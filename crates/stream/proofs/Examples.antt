@@ -7,25 +7,24 @@ use mathlib.Core.List.{[], ◌∷◌}
 use lib.ListN.{replicate}
 use Rattle.words.specs.declared.Service.TheVariants.{ShortMessage, OldPage}
 use Rattle.words.specs.declared.Refusal.TheVariants.{Unwritable, NoSeptet, TooLong, WrongLength}
-use Rattle.words.specs.declared.Filled.TheVariants as filled
 use Rattle.words.specs.Judging.{verdict}
 use Rattle.lists.specs.Lists.{first_place}
-use Rattle.stream.specs.declared.Packed.TheVariants as packed
 use Rattle.stream.specs.Stream.{octets_for}
 use Rattle.stream.specs.SeptetCalls.{pack_rules, pack_answers, unpack_rules, unpack_answers}
+use Rattle.std.specs.Prelude.{Err}
 
-pub old-page-first : pack_answers OldPage (0x80 ∷ []) 0 ≡ packed.Refused Unwritable
+pub old-page-first : pack_answers OldPage (0x80 ∷ []) 0 ≡ Err Unwritable
 unfolding pack_answers pack_rules verdict
 old-page-first = refl
 
-pub wide-first : pack_answers ShortMessage (replicate 161 0x80) 0 ≡ packed.Refused (NoSeptet 0)
+pub wide-first : pack_answers ShortMessage (replicate 161 0x80) 0 ≡ Err (NoSeptet 0)
 unfolding pack_answers pack_rules verdict first_place
 wide-first = refl
 
-pub size-first : pack_answers ShortMessage (replicate 161 0x41) 0 ≡ packed.Refused TooLong
+pub size-first : pack_answers ShortMessage (replicate 161 0x41) 0 ≡ Err TooLong
 unfolding pack_answers pack_rules verdict first_place
 size-first = refl
 
-pub length-first : unpack_answers ShortMessage (0x41 ∷ []) 2 0 ≡ filled.Refused WrongLength
+pub length-first : unpack_answers ShortMessage (0x41 ∷ []) 2 0 ≡ Err WrongLength
 unfolding unpack_answers unpack_rules verdict octets_for
 length-first = refl

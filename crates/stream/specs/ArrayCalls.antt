@@ -13,11 +13,9 @@
 --   adds_under service s               == whether the service adds a CR to the septets s
 --   closes_groups s                    == whether s is whole groups of eight and ends in CR
 --   kept_count service s               == how many of all septets s that octets hold are left of a text
-use Rattle.std.specs.Prelude.{ℕ, ◌-◌, ◌%◌, Bool, true, false, not, ◌&&◌, List, [], ◌∷◌, ◌++◌, length, take, ltb, eqb}
+use Rattle.std.specs.Prelude.{ℕ, ◌-◌, ◌%◌, Bool, true, false, not, ◌&&◌, List, [], ◌∷◌, ◌++◌, length, take, ltb, eqb, Result, Ok, Err}
 use Rattle.words.specs.declared.Service.{Service}
 use Rattle.words.specs.declared.Service.TheVariants.{ShortMessage, Broadcast, Ussd, OldPage}
-use Rattle.words.specs.declared.Filled.{Filled}
-use Rattle.words.specs.declared.Filled.TheVariants.{Done, Refused}
 use Rattle.words.specs.declared.Refusal.TheVariants.{Unwritable, NoSeptet, TooLong, NoRoom, WrongLength}
 use Rattle.words.specs.Sizes.{most_septets, is_old_page}
 use Rattle.lists.specs.Lists.{first_wide, laid}
@@ -28,7 +26,8 @@ use Rattle.stream.specs.Digits.{low_of}
 use Rattle.stream.specs.UssdPacking.{cr, septets_in, last, adds_cr}
 use Rattle.stream.specs.SeptetCalls.{octets_of, travels, septets_fit}
 use Rattle.stream.specs.declared.Packed.{Packed}
-use Rattle.stream.specs.declared.Packed.TheVariants as done
+use Rattle.words.specs.declared.Refusal.{Refusal}
+use Rattle.stream.specs.Successes.{ok_packed}
 
 abbrev pub low_bits : List ℕ → List ℕ
 low_bits s = low_of 7 s
@@ -42,10 +41,10 @@ array_rules service s n room =
     ∷ when (ltb room (length (octets_of service (take n (low_bits s))))) NoRoom
     ∷ [])
 
-unfoldable pub array_answers : Service → List ℕ → ℕ → ℕ → Packed
+unfoldable pub array_answers : Service → List ℕ → ℕ → ℕ → Result Packed Refusal
 array_answers service s n room =
-    settle (verdict (array_rules service s n room)) done.Refused
-    (done.Done (length (octets_of service (take n (low_bits s)))) (travels service n))
+    settle (verdict (array_rules service s n room)) Err
+    (ok_packed (length (octets_of service (take n (low_bits s)))) (travels service n))
 
 unfoldable pub array_leaves : Service → List ℕ → ℕ → List ℕ → List ℕ
 array_leaves service s n out =
@@ -56,8 +55,8 @@ unfoldable pub page_rules : List ℕ → ℕ → List Rule
 page_rules p room =
     when (ltb (first_wide p) (length p)) (NoSeptet (first_wide p)) ∷ when (ltb room (length (packed p))) NoRoom ∷ []
 
-unfoldable pub page_answers : List ℕ → ℕ → Filled
-page_answers p room = settle (verdict (page_rules p room)) Refused (Done (length (packed p)))
+unfoldable pub page_answers : List ℕ → ℕ → Result ℕ Refusal
+page_answers p room = settle (verdict (page_rules p room)) Err (Ok (length (packed p)))
 
 unfoldable pub page_leaves : List ℕ → List ℕ → List ℕ
 page_leaves p out = settle (verdict (page_rules p (length out))) (λ r. out) (laid (packed p) out)
@@ -79,9 +78,9 @@ all_rules service o count room =
     ∷ when (ltb room (length (all_septets service count o))) NoRoom
     ∷ [])
 
-unfoldable pub all_answers : Service → List ℕ → ℕ → ℕ → Filled
+unfoldable pub all_answers : Service → List ℕ → ℕ → ℕ → Result ℕ Refusal
 all_answers service o count room =
-    settle (verdict (all_rules service o count room)) Refused (Done (length (all_septets service count o)))
+    settle (verdict (all_rules service o count room)) Err (Ok (length (all_septets service count o)))
 
 unfoldable pub all_leaves : Service → List ℕ → ℕ → List ℕ → List ℕ
 all_leaves service o count out =

@@ -1,3 +1,4 @@
+pub mod Successes
 pub mod Stream
 pub mod UssdPacking
 pub mod Pages

@@ -8,21 +8,20 @@
 --   septets_fit service octets count            == whether so many octets fit the service and the count
 --   septets_of service count o                  == the septets that the octets o hold
 --   unpack_rules, unpack_answers, unpack_leaves == the same of unpack
-use Rattle.std.specs.Prelude.{ℕ, Bool, not, ◌&&◌, List, [], ◌∷◌, ◌++◌, length, ltb, leb, eqb}
+use Rattle.std.specs.Prelude.{ℕ, Bool, not, ◌&&◌, List, [], ◌∷◌, ◌++◌, length, ltb, leb, eqb, Result, Ok, Err}
 use Rattle.words.specs.declared.Service.{Service}
 use Rattle.words.specs.declared.Service.TheVariants.{ShortMessage, Broadcast, Ussd, OldPage}
-use Rattle.words.specs.declared.Filled.{Filled}
-use Rattle.words.specs.declared.Filled.TheVariants as filled
 use Rattle.words.specs.declared.Refusal.TheVariants.{Unwritable, NoSeptet, TooLong, NoRoom, WrongLength}
 use Rattle.words.specs.Sizes.{most_septets, most_octets, is_old_page}
 use Rattle.lists.specs.Lists.{first_wide, laid}
 use Rattle.words.specs.Judging.{Rule, when, verdict, settle, service_rules}
 use Rattle.stream.specs.declared.Packed.{Packed}
-use Rattle.stream.specs.declared.Packed.TheVariants as done
 use Rattle.stream.specs.Stream.{octets_for, packed, unpacked}
 use Rattle.stream.specs.UssdPacking.{ussd_octets, ussd_septets}
 use Rattle.stream.specs.Pages.{page_octets, page_septets}
 use Rattle.stream.specs.OldPage.{old_page_septets}
+use Rattle.words.specs.declared.Refusal.{Refusal}
+use Rattle.stream.specs.Successes.{ok_packed}
 
 abbrev pub octets_of : Service → List ℕ → List ℕ
 octets_of ShortMessage s = packed s
@@ -50,9 +49,9 @@ pack_rules service s room =
     ∷ when (ltb room (length (octets_of service s))) NoRoom
     ∷ [])
 
-unfoldable pub pack_answers : Service → List ℕ → ℕ → Packed
+unfoldable pub pack_answers : Service → List ℕ → ℕ → Result Packed Refusal
 pack_answers service s room =
-    settle (verdict (pack_rules service s room)) done.Refused (done.Done (length (octets_of service s)) (count_of service s))
+    settle (verdict (pack_rules service s room)) Err (ok_packed (length (octets_of service s)) (count_of service s))
 
 unfoldable pub pack_leaves : Service → List ℕ → List ℕ → List ℕ
 pack_leaves service s out = settle (verdict (pack_rules service s (length out))) (λ r. out) (laid (octets_of service s) out)
@@ -77,9 +76,9 @@ unpack_rules service o count room =
     ∷ when (ltb room (length (septets_of service count o))) NoRoom
     ∷ [])
 
-unfoldable pub unpack_answers : Service → List ℕ → ℕ → ℕ → Filled
+unfoldable pub unpack_answers : Service → List ℕ → ℕ → ℕ → Result ℕ Refusal
 unpack_answers service o count room =
-    settle (verdict (unpack_rules service o count room)) filled.Refused (filled.Done (length (septets_of service count o)))
+    settle (verdict (unpack_rules service o count room)) Err (Ok (length (septets_of service count o)))
 
 unfoldable pub unpack_leaves : Service → List ℕ → ℕ → List ℕ → List ℕ
 unpack_leaves service o count out =

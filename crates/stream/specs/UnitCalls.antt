@@ -7,11 +7,9 @@
 --   units_fit service octets count                       == whether so many octets fit the service and the count
 --   units_of service o                                   == the units that the octets o hold
 --   to_units_rules, to_units_answers, to_units_leaves    == the same of octets_to_units
-use Rattle.std.specs.Prelude.{ℕ, ◌%◌, Bool, false, not, ◌&&◌, List, [], ◌∷◌, ◌++◌, length, ltb, leb, eqb}
+use Rattle.std.specs.Prelude.{ℕ, ◌%◌, Bool, false, not, ◌&&◌, List, [], ◌∷◌, ◌++◌, length, ltb, leb, eqb, Result, Ok, Err}
 use Rattle.words.specs.declared.Service.{Service}
 use Rattle.words.specs.declared.Service.TheVariants.{ShortMessage, Broadcast, Ussd, OldPage}
-use Rattle.words.specs.declared.Filled.{Filled}
-use Rattle.words.specs.declared.Filled.TheVariants.{Done, Refused}
 use Rattle.words.specs.declared.Refusal.TheVariants.{Unwritable, TooLong, NoRoom, WrongLength}
 use Rattle.words.specs.Sizes.{most_units, most_octets, is_old_page}
 use Rattle.lists.specs.Lists.{laid}
@@ -20,6 +18,7 @@ use Rattle.words.specs.Judging.{Rule, when, verdict, settle, service_rules}
 use Rattle.stream.specs.SeptetCalls.{travels}
 use Rattle.stream.specs.UssdPacking.{cr}
 use Rattle.stream.specs.Ucs2.{unit_octets, octet_units, unit_page}
+use Rattle.words.specs.declared.Refusal.{Refusal}
 
 abbrev pub ucs2_octets_of : Service → List ℕ → List ℕ
 ucs2_octets_of ShortMessage us = unit_octets us
@@ -39,8 +38,8 @@ to_octets_rules service us room =
     ∷ when (ltb room (length (ucs2_octets_of service us))) NoRoom
     ∷ [])
 
-unfoldable pub to_octets_answers : Service → List ℕ → ℕ → Filled
-to_octets_answers service us room = settle (verdict (to_octets_rules service us room)) Refused (Done (length (ucs2_octets_of service us)))
+unfoldable pub to_octets_answers : Service → List ℕ → ℕ → Result ℕ Refusal
+to_octets_answers service us room = settle (verdict (to_octets_rules service us room)) Err (Ok (length (ucs2_octets_of service us)))
 
 unfoldable pub to_octets_leaves : Service → List ℕ → List ℕ → List ℕ
 to_octets_leaves service us out =
@@ -65,9 +64,9 @@ to_units_rules service o count room =
     ∷ when (ltb room (length (units_of service o))) NoRoom
     ∷ [])
 
-unfoldable pub to_units_answers : Service → List ℕ → ℕ → ℕ → Filled
+unfoldable pub to_units_answers : Service → List ℕ → ℕ → ℕ → Result ℕ Refusal
 to_units_answers service o count room =
-    settle (verdict (to_units_rules service o count room)) Refused (Done (length (units_of service o)))
+    settle (verdict (to_units_rules service o count room)) Err (Ok (length (units_of service o)))
 
 unfoldable pub to_units_leaves : Service → List ℕ → ℕ → List ℕ → List ℕ
 to_units_leaves service o count out =

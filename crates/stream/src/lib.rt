@@ -5,9 +5,9 @@ use words::Refusal;
 
 // What packing answers.
 #[derive(Clone, Copy)]
-pub enum Packed {
-    // How many octets it stored at the front, and the length count: the septets of a short message, else 0.
-    Done { octets: usize, count: usize },
-    // Why it stored none.
-    Refused(Refusal),
+pub struct Packed {
+    // How many octets it stored at the front.
+    pub octets: usize,
+    // The length count: the septets of a short message, else 0.
+    pub count: usize,
 }

@@ -5,7 +5,7 @@ ghost use Rattle.letters.specs.Reading.{read_as, text_answers, text_leaves};
 ghost use Rattle.letters.specs.Inner.{OwnFrom, first_read, Stepped};
 
 use crate::own;
-use words::{Filled, Refusal};
+use words::Refusal;
 
 // Lays the unit that is read at i over place n of the buffer, and answers where reading goes on. One code is not read by the main table, so that most
 // septets pass one comparison: before `pairs` it is the first of a pair, and from there on a space. Each way stores by itself: of a unit that the ways
@@ -109,24 +109,24 @@ fn wide_behind(septets: &[u8], front: usize) -> usize
 
 // Septets to text: the front that is its own units is copied, the rest is judged, and read by a table.
 // Units are never more than septets, so only a buffer that is shorter than those is measured.
-pub(crate) fn read_text(septets: &[u8], old: bool, out: &mut [u16]) -> Filled
+pub(crate) fn read_text(septets: &[u8], old: bool, out: &mut [u16]) -> Result<usize, Refusal>
     ensures answer { result ≡ text_answers septets.now (read_as old septets.now) (length out.old) }
     ensures buffer { out.new ≡ text_leaves septets.now (read_as old septets.now) out.old }
 {
     let front = own::own_septets(septets);
     let wide = wide_behind(septets, front);
     if wide < septets.len() {
-        return Filled::Refused(Refusal::NoSeptet { septet: wide });
+        return Err(Refusal::NoSeptet { septet: wide });
     }
     if out.len() < septets.len() {
         if out.len() < units_in(septets, old) {
-            return Filled::Refused(Refusal::NoRoom);
+            return Err(Refusal::NoRoom);
         }
     }
     own::copy_septets(septets, front, out);
     if septets.len() <= front {
-        return Filled::Done(front);
+        return Ok(front);
     }
     let n = lay_text(septets, old, front, out);
-    Filled::Done(n)
+    Ok(n)
 }

@@ -9,23 +9,28 @@ ghost use Rattle.stream.specs.UnitCalls.{units_fit, to_units_answers, to_units_l
 ghost use Rattle.stream.specs.Storing.{given_answers, given_leaves};
 ghost use Rattle.to_units.specs.Laying.{laid_count, laid_units, kept_units};
 
-use words::{Filled, Refusal, Service};
+use words::{Refusal, Service};
 
 // The UCS2 units that octets hold under a service: how many there are. A broadcast page drops its closing 000D.
 // Refuses octets that do not fit the service or the count, and any for an old page (4), then a short buffer (7).
 // Stores the units at the front of out; a refusal stores nothing.
-pub fn octets_to_units(service: Service, octets: &[u8], count: usize, out: &mut [u16]) -> Filled
+pub fn octets_to_units(
+    service: Service,
+    octets: &[u8],
+    count: usize,
+    out: &mut [u16],
+) -> Result<usize, Refusal>
     ensures answer { result ≡ to_units_answers service octets.now count (length out.old) }
     ensures buffer { out.new ≡ to_units_leaves service octets.now count out.old }
 {
     if !fits(service, octets.len(), count) {
-        return Filled::Refused(Refusal::WrongLength);
+        return Err(Refusal::WrongLength);
     }
     match service {
         Service::ShortMessage => get_units(octets, octets.len() / 2, out),
         Service::Broadcast => get_units(octets, page_kept(octets), out),
         Service::Ussd => get_units(octets, octets.len() / 2, out),
-        Service::OldPage => Filled::Refused(Refusal::WrongLength),
+        Service::OldPage => Err(Refusal::WrongLength),
     }
 }
 
@@ -60,20 +65,20 @@ pub fn kept(units: &[u16]) -> usize
 
 // Stores units: how many there are.
 // Refuses a short buffer (7). Stores the units at the front of out; a refusal stores nothing.
-pub fn store(units: &[u16], out: &mut [u16]) -> Filled
+pub fn store(units: &[u16], out: &mut [u16]) -> Result<usize, Refusal>
     ensures answer { result ≡ given_answers units.now (length out.old) }
     ensures buffer { out.new ≡ given_leaves units.now out.old }
 {
     let n = units.len();
     if out.len() < n {
-        return Filled::Refused(Refusal::NoRoom);
+        return Err(Refusal::NoRoom);
     }
     let mut i: usize = 0;
     while i < n {
         out[i] = units[i];
         i += 1;
     }
-    Filled::Done(n)
+    Ok(n)
 }
 
 // Whether so many octets fit the service and the count. An odd number fits none: a page has 82.
@@ -118,20 +123,20 @@ fn unit_at(octets: &[u8], i: usize) -> u16
 }
 
 // Stores the first n units that octets hold.
-fn get_units(octets: &[u8], n: usize, out: &mut [u16]) -> Filled
+fn get_units(octets: &[u8], n: usize, out: &mut [u16]) -> Result<usize, Refusal>
     requires { 2 * n ≤ length octets.now }
     ensures answer { result ≡ given_answers (take n (octet_units octets.now)) (length out.old) }
     ensures buffer { out.new ≡ given_leaves (take n (octet_units octets.now)) out.old }
 {
     if out.len() < n {
-        return Filled::Refused(Refusal::NoRoom);
+        return Err(Refusal::NoRoom);
     }
     if n < 8 {
         get_few(octets, n, out);
     } else {
         get_many(octets, n, out);
     }
-    Filled::Done(n)
+    Ok(n)
 }
 
 // Lays the first n units over the front of out, one after the other.

@@ -20,24 +20,21 @@ use Rattle.coding.specs.Holding.{is_ucs2}
 use Rattle.coding.specs.LanguageLetters.{is_lettered, coding_rules}
 use Rattle.letters.specs.Writing.{septets_of, first_unlisted}
 use Rattle.stream.proofs.UnitOctets.{unit-octets-length}
-use Rattle.stream.specs.declared.Packed.TheVariants as packed
 use Rattle.stream.specs.Answers.{packed_count}
 use Rattle.stream.specs.SeptetCalls.{count_of, pack_rules, pack_answers}
 use Rattle.stream.specs.UnitCalls.{unit_count_of}
-use Rattle.demands.specs.declared.MessageWritten.TheVariants as written
 use Rattle.demands.specs.MessageWritten.{text_size_rules, not_codable, over_size, message_count, size_rules, mark_rules, write_rules, write_answers}
 use Rattle.demands.proofs.LetteredSteps.{page-count}
 use Rattle.demands.proofs.Unlettered.{size-rules}
 use Rattle.demands.specs.Reports.{write_count}
 use Rattle.names.specs.declared.ReadingNumbers.{ReadingNumbers}
-use Rattle.words.specs.declared.NamedService.{NamedService}
-use Rattle.words.specs.declared.NamedService.TheVariants as service
-use Rattle.names.specs.declared.NamedReading.{NamedReading}
-use Rattle.names.specs.declared.NamedReading.TheVariants as reading
 use Rattle.words.specs.Services.{named_service, under_service}
 use Rattle.names.specs.Names.{named_reading, under_reading}
 use Rattle.answers.specs.Answers.{refused_answer, message_written_answer}
 use Rattle.wikuay.specs.Calls.{write_message_gives}
+use Rattle.std.specs.Prelude.{Option, Err, Some, None}
+use Rattle.stream.specs.Successes.{ok_packed}
+use Rattle.demands.specs.Successes.{ok_message_written}
 
 septets-count : (service : Service) (s : List ℕ) → ltb (most_septets service) (length s) ≡ false → count_of service s ≤ 160
 septets-count ShortMessage s e = ltb-false _ _ e
@@ -58,11 +55,11 @@ text-count true service us e = units-count service us e
 text-count false service us e = septets-count service (septets_of us) e
 
 -- a count that is given only where the verdict is accepted
-packed-within : (v : Verdict) (octets count : ℕ) → (v ≡ accepted → count ≤ 160) → packed_count (settle v packed.Refused (packed.Done octets count)) ≤ 160
+packed-within : (v : Verdict) (octets count : ℕ) → (v ≡ accepted → count ≤ 160) → packed_count (settle v Err (ok_packed octets count)) ≤ 160
 packed-within (refused q) octets count h = omega arith
 packed-within accepted octets count h = h refl
 
-written-within : (v : Verdict) (octets count coding : ℕ) → (v ≡ accepted → count ≤ 160) → write_count (settle v written.Refused (written.Done octets count coding)) ≤ 160
+written-within : (v : Verdict) (octets count coding : ℕ) → (v ≡ accepted → count ≤ 160) → write_count (settle v Err (ok_message_written octets count coding)) ≤ 160
 written-within (refused q) octets count coding h = omega arith
 written-within accepted octets count coding h = h refl
 
@@ -90,11 +87,11 @@ pub gives-count : (n : ℕ) (x : ReadingNumbers) (us : List ℕ) (room : ℕ) �
 unfolding write_message_gives
 gives-count n x us room = of-service (named_service n)
   where
-    of-reading : (s : Service) (v : NamedReading) → (under_reading v (refused_answer Unwritable) (λ r. message_written_answer (write_answers s r us room))).count ≤ 160
-    of-reading s (reading.Named r) = write-count s r us room
-    of-reading s reading.Unnamed = omega arith
+    of-reading : (s : Service) (v : Option Reading) → (under_reading v (refused_answer Unwritable) (λ r. message_written_answer (write_answers s r us room))).count ≤ 160
+    of-reading s (Some r) = write-count s r us room
+    of-reading s None = omega arith
 
-    of-service : (v : NamedService)
+    of-service : (v : Option Service)
         → (under_service v (refused_answer Unwritable) (λ s. under_reading (named_reading x) (refused_answer Unwritable) (λ r. message_written_answer (write_answers s r us room)))).count ≤ 160
-    of-service (service.Named s) = of-reading s (named_reading x)
-    of-service service.Unnamed = omega arith
+    of-service (Some s) = of-reading s (named_reading x)
+    of-service None = omega arith

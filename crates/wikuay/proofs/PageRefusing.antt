@@ -13,10 +13,7 @@ use Rattle.coding.specs.OctetWritten.{write_rules as alone_rules}
 use Rattle.coding.specs.LanguageLetters.{coding_rules}
 use Rattle.coding.specs.Holding.{text_rules}
 use Rattle.names.specs.declared.ReadingNumbers.{ReadingNumbers}
-use Rattle.names.specs.declared.NamedReading.{NamedReading}
-use Rattle.names.specs.declared.NamedReading.TheVariants as reading
 use Rattle.names.specs.Names.{named_reading, under_reading}
-use Rattle.pages.specs.declared.Counted.TheVariants as counted
 use Rattle.pages.specs.Blocks.{block_size}
 use Rattle.pages.specs.Written.{size_rules, count_rules, count_answers, build_rules, built_as, pages_rules, pages_answers, pages_leaves}
 use Rattle.pages.specs.Joined.{page_rules, join_rules, join_answers, join_leaves}
@@ -27,6 +24,8 @@ use Rattle.page_answers.specs.PageAnswers.{counted_answer, pages_refused_answer,
 use Rattle.wikuay.specs.PageCalls.{count_pages_gives, build_page_gives, write_pages_gives, write_pages_keeps, join_pages_gives, join_pages_keeps}
 use Rattle.wikuay.specs.Refusing.{Judged}
 use Rattle.wikuay.proofs.Refusing.{VerdictAmong, verdict-among, judged, judged-alone}
+use Rattle.std.specs.Prelude.{Option, Ok, Err, Some, None}
+use Rattle.coding.specs.declared.Reading.{Reading}
 
 abbrev pages_number : PagesAnswer → ℕ
 pages_number a = a.refusal
@@ -42,16 +41,16 @@ pub wikuay-count-pages-refuses : (x : ReadingNumbers) (text : List ℕ)
 unfolding count_pages_gives count_answers count_rules coding_rules alone_rules text_rules size_rules
 wikuay-count-pages-refuses x text = of-reading (named_reading x)
   where
-    of-reading : (v : NamedReading)
+    of-reading : (v : Option Reading)
         → Judged pages_number pages_refused_answer (8 ∷ 1 ∷ 2 ∷ 3 ∷ 6 ∷ 5 ∷ []) (under_reading v (pages_refused_answer Unwritable) (λ r. counted_answer (count_answers r text))) [] []
-    of-reading (reading.Named r) =
+    of-reading (Some r) =
         judged-alone pages_number pages_refused_answer (8 ∷ 1 ∷ 2 ∷ 3 ∷ 6 ∷ 5 ∷ []) (count_rules r text) refl counted_answer _ _ (λ q. refl) refl
-    of-reading reading.Unnamed = inr (Unwritable, (refl, (refl, refl)))
+    of-reading None = inr (Unwritable, (refl, (refl, refl)))
 
 -- the answer and the block of a page are settled by one verdict
 built : (numbers : List ℕ) (v : Verdict) → VerdictAmong numbers v → (n : ℕ) (block : List ℕ)
     → Judged page_number page_refused_answer numbers
-    (built_answer (record { answer = settle v counted.Refused (counted.Pages n); block = settle v (λ q. replicate block_size 0) block })) [] []
+    (built_answer (record { answer = settle v Err (Ok n); block = settle v (λ q. replicate block_size 0) block })) [] []
 built numbers (refused q) k n block = inr (q, (refl, (k, refl)))
 built numbers accepted k n block = inl refl
 
@@ -60,12 +59,12 @@ pub wikuay-build-page-refuses : (sequence identifier : ℕ) (x : ReadingNumbers)
 unfolding build_page_gives built_as build_rules count_rules coding_rules alone_rules text_rules size_rules
 wikuay-build-page-refuses sequence identifier x text k = of-reading (named_reading x)
   where
-    of-reading : (v : NamedReading)
+    of-reading : (v : Option Reading)
         → Judged page_number page_refused_answer (8 ∷ 1 ∷ 2 ∷ 3 ∷ 6 ∷ 5 ∷ 10 ∷ [])
         (under_reading v (page_refused_answer Unwritable) (λ r. built_answer (built_as sequence identifier r text k))) [] []
-    of-reading (reading.Named r) =
+    of-reading (Some r) =
         built (8 ∷ 1 ∷ 2 ∷ 3 ∷ 6 ∷ 5 ∷ 10 ∷ []) (verdict (build_rules r text k)) (verdict-among (8 ∷ 1 ∷ 2 ∷ 3 ∷ 6 ∷ 5 ∷ 10 ∷ []) (build_rules r text k) refl) _ _
-    of-reading reading.Unnamed = inr (Unwritable, (refl, (refl, refl)))
+    of-reading None = inr (Unwritable, (refl, (refl, refl)))
 
 pub wikuay-write-pages-refuses : (sequence identifier : ℕ) (x : ReadingNumbers) (text out : List ℕ)
     → Judged pages_number pages_refused_answer (8 ∷ 1 ∷ 2 ∷ 3 ∷ 6 ∷ 5 ∷ 7 ∷ []) (write_pages_gives sequence identifier x text (length out)) out
@@ -73,14 +72,14 @@ pub wikuay-write-pages-refuses : (sequence identifier : ℕ) (x : ReadingNumbers
 unfolding write_pages_gives write_pages_keeps pages_answers pages_leaves pages_rules count_rules coding_rules alone_rules text_rules size_rules
 wikuay-write-pages-refuses sequence identifier x text out = of-reading (named_reading x)
   where
-    of-reading : (v : NamedReading)
+    of-reading : (v : Option Reading)
         → Judged pages_number pages_refused_answer (8 ∷ 1 ∷ 2 ∷ 3 ∷ 6 ∷ 5 ∷ 7 ∷ [])
         (under_reading v (pages_refused_answer Unwritable) (λ r. pages_written_answer (pages_answers sequence identifier r text (length out)))) out
         (under_reading v out (λ r. pages_leaves sequence identifier r text out))
-    of-reading (reading.Named r) =
+    of-reading (Some r) =
         judged pages_number pages_refused_answer (8 ∷ 1 ∷ 2 ∷ 3 ∷ 6 ∷ 5 ∷ 7 ∷ []) (pages_rules sequence identifier r text (length out)) refl pages_written_answer _ _
         (λ q. refl) refl out _
-    of-reading reading.Unnamed = inr (Unwritable, (refl, (refl, refl)))
+    of-reading None = inr (Unwritable, (refl, (refl, refl)))
 
 pub wikuay-join-pages-refuses : (blocks out : List ℕ)
     → Judged join_number join_refused_answer (4 ∷ 10 ∷ 1 ∷ 2 ∷ 3 ∷ 7 ∷ []) (join_pages_gives blocks (length out)) out (join_pages_keeps blocks out)

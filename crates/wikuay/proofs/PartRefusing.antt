@@ -23,12 +23,8 @@ use Rattle.coding.specs.OctetWritten.{write_rules as alone_rules}
 use Rattle.coding.specs.LanguageLetters.{coding_rules}
 use Rattle.coding.specs.Holding.{is_ucs2, text_rules}
 use Rattle.names.specs.declared.ReadingNumbers.{ReadingNumbers}
-use Rattle.names.specs.declared.NamedReading.{NamedReading}
-use Rattle.names.specs.declared.NamedReading.TheVariants as reading
 use Rattle.names.specs.Names.{named_reading, under_reading}
 use Rattle.filling.specs.Numbered.{lacks}
-use Rattle.parted.specs.declared.Counted.TheVariants as counted
-use Rattle.parted.specs.declared.PartRead.TheVariants as read
 use Rattle.parted.specs.Written.{reading_parts, octets_as, octets_of_all, sizes_of_all, size_rules, count_rules, count_answers, part_rules, part_answers, part_leaves, all_rules, all_answers, all_leaves, sizes_leaves}
 use Rattle.parted.specs.Read.{behind_rules, part_read_rules, part_reads, part_read_leaves}
 use Rattle.parted.specs.Joined.{parts_rules, join_rules, join_answers, join_leaves}
@@ -40,6 +36,7 @@ use Rattle.part_answers.specs.PartAnswers.{counted_answer, part_written_answer, 
 use Rattle.wikuay.specs.PartCalls.{read_part_gives, read_part_keeps, count_parts_gives, write_part_gives, write_part_keeps, write_parts_gives, write_parts_keeps, write_parts_lists, join_parts_gives, join_parts_keeps}
 use Rattle.wikuay.specs.Refusing.{Judged}
 use Rattle.wikuay.proofs.Refusing.{rules_among, VerdictAmong, verdict-among}
+use Rattle.std.specs.Prelude.{Option, Ok, Err, Some, None}
 
 -- ---- 3 does not come
 
@@ -81,14 +78,14 @@ judged-lent number tell numbers rules h never answer refuse given told zero out 
 
 counting : (r : Reading) (t : List ℕ) → verdict (count_rules r t) ≡ refused Prefixed → ⊥
 unfolding count_answers
-counting r t e = count-never-3 r t (refused-settles (verdict (count_rules r t)) counted.Refused (counted.Parts (reading_parts r t)) Prefixed e)
+counting r t e = count-never-3 r t (refused-settles (verdict (count_rules r t)) Err (Ok (reading_parts r t)) Prefixed e)
 
 reading-text : (coding : ℕ) → coding < 256 → verdict (text_rules ShortMessage (read_under ShortMessage coding)) ≡ refused Prefixed → ⊥
 unfolding part_reads part_read_rules
 reading-text coding small e =
     let r : Reading = read_under ShortMessage coding in
     read-never-3 coding false 0 [] 0 small
-    (refused-settles (verdict (part_read_rules r false 0 [] 0)) read.Refused _ Prefixed
+    (refused-settles (verdict (part_read_rules r false 0 [] 0)) Err _ Prefixed
     (verdict-refused-first (text_rules ShortMessage r) (behind_rules (is_ucs2 r.alphabet) false 0 [] 0) Prefixed e))
 
 abbrev parts_number : PartsAnswer → ℕ
@@ -126,26 +123,26 @@ pub wikuay-count-parts-refuses : (x : ReadingNumbers) (text : List ℕ)
 unfolding count_parts_gives count_answers count_rules coding_rules alone_rules text_rules size_rules
 wikuay-count-parts-refuses x text = of-reading (named_reading x)
   where
-    of-reading : (v : NamedReading)
+    of-reading : (v : Option Reading)
         → Judged parts_number parts_refused_answer (8 ∷ 1 ∷ 2 ∷ 6 ∷ 5 ∷ []) (under_reading v (parts_refused_answer Unwritable) (λ r. counted_answer (count_answers r text))) [] []
-    of-reading (reading.Named r) =
+    of-reading (Some r) =
         judged parts_number parts_refused_answer (8 ∷ 1 ∷ 2 ∷ 6 ∷ 5 ∷ []) (count_rules r text) refl (counting r text) counted_answer _ _ (λ q. refl) refl [] (λ v. []) (λ q. refl)
-    of-reading reading.Unnamed = inr (Unwritable, (refl, (refl, refl)))
+    of-reading None = inr (Unwritable, (refl, (refl, refl)))
 
 pub wikuay-write-part-refuses : (x : ReadingNumbers) (reference : ℕ) (text : List ℕ) (k : ℕ) (out : List ℕ)
     → Judged parts_number parts_refused_answer (8 ∷ 1 ∷ 2 ∷ 6 ∷ 5 ∷ 10 ∷ 7 ∷ []) (write_part_gives x reference text k (length out)) out (write_part_keeps x reference text k out)
 unfolding write_part_gives write_part_keeps part_answers part_leaves part_rules count_rules coding_rules alone_rules text_rules size_rules gives
 wikuay-write-part-refuses x reference text k out = of-reading (named_reading x)
   where
-    of-reading : (v : NamedReading)
+    of-reading : (v : Option Reading)
         → Judged parts_number parts_refused_answer (8 ∷ 1 ∷ 2 ∷ 6 ∷ 5 ∷ 10 ∷ 7 ∷ [])
         (under_reading v (parts_refused_answer Unwritable) (λ r. part_written_answer (part_answers r reference text k (length out)))) out
         (under_reading v out (λ r. part_leaves r reference text k out))
-    of-reading (reading.Named r) =
+    of-reading (Some r) =
         judged-lent parts_number parts_refused_answer (8 ∷ 1 ∷ 2 ∷ 6 ∷ 5 ∷ 10 ∷ 7 ∷ []) (part_rules r reference text k (length out)) refl
         (λ e. counting r text (in-front (count_rules r text) (when (lacks (reading_parts r text) k) WrongPages ∷ when (ltb (length out) (length (octets_as r reference text k))) NoRoom ∷ []) Prefixed refl e))
         part_written_answer _ _ (λ q. refl) refl out _
-    of-reading reading.Unnamed = inr (Unwritable, (refl, (refl, refl)))
+    of-reading None = inr (Unwritable, (refl, (refl, refl)))
 
 -- the second rule of write_parts is of both buffers
 writing : (r : Reading) (reference : ℕ) (text : List ℕ) (room list : ℕ) → verdict (all_rules r reference text room list) ≡ refused Prefixed → ⊥
@@ -160,28 +157,28 @@ module _ (x : ReadingNumbers) (reference : ℕ) (text out sizes : List ℕ) wher
   unfolding write_parts_gives write_parts_keeps all_answers all_leaves all_rules count_rules coding_rules alone_rules text_rules size_rules
   wikuay-write-parts-refuses = of-reading (named_reading x)
     where
-      of-reading : (v : NamedReading)
+      of-reading : (v : Option Reading)
           → Judged parts_number parts_refused_answer (8 ∷ 1 ∷ 2 ∷ 6 ∷ 5 ∷ 7 ∷ [])
           (under_reading v (parts_refused_answer Unwritable) (λ r. parts_written_answer (all_answers r reference text (length out) (length sizes)))) out
           (under_reading v out (λ r. all_leaves r reference text (length sizes) out))
-      of-reading (reading.Named r) =
+      of-reading (Some r) =
           judged-lent parts_number parts_refused_answer (8 ∷ 1 ∷ 2 ∷ 6 ∷ 5 ∷ 7 ∷ []) (all_rules r reference text (length out) (length sizes)) refl
           (writing r reference text (length out) (length sizes)) parts_written_answer _ _ (λ q. refl) refl out _
-      of-reading reading.Unnamed = inr (Unwritable, (refl, (refl, refl)))
+      of-reading None = inr (Unwritable, (refl, (refl, refl)))
 
   pub wikuay-write-parts-sizes-refuses : Judged parts_number parts_refused_answer (8 ∷ 1 ∷ 2 ∷ 6 ∷ 5 ∷ 7 ∷ []) (write_parts_gives x reference text (length out) (length sizes)) sizes
       (write_parts_lists x reference text (length out) sizes)
   unfolding write_parts_gives write_parts_lists all_answers sizes_leaves all_rules count_rules coding_rules alone_rules text_rules size_rules
   wikuay-write-parts-sizes-refuses = of-reading (named_reading x)
     where
-      of-reading : (v : NamedReading)
+      of-reading : (v : Option Reading)
           → Judged parts_number parts_refused_answer (8 ∷ 1 ∷ 2 ∷ 6 ∷ 5 ∷ 7 ∷ [])
           (under_reading v (parts_refused_answer Unwritable) (λ r. parts_written_answer (all_answers r reference text (length out) (length sizes)))) sizes
           (under_reading v sizes (λ r. sizes_leaves r reference text (length out) sizes))
-      of-reading (reading.Named r) =
+      of-reading (Some r) =
           judged-lent parts_number parts_refused_answer (8 ∷ 1 ∷ 2 ∷ 6 ∷ 5 ∷ 7 ∷ []) (all_rules r reference text (length out) (length sizes)) refl
           (writing r reference text (length out) (length sizes)) parts_written_answer _ _ (λ q. refl) refl sizes _
-      of-reading reading.Unnamed = inr (Unwritable, (refl, (refl, refl)))
+      of-reading None = inr (Unwritable, (refl, (refl, refl)))
 
 -- ---- joining
 

@@ -20,7 +20,6 @@ use Rattle.coding.specs.declared.Reading.{Reading}
 use Rattle.coding.specs.OctetRead.{octet_rules, octet_reads, read_under}
 use Rattle.coding.specs.OctetWritten.{octet_writes, write_rules as alone_rules}
 use Rattle.coding.specs.LanguageLetters.{is_lettered, coding_rules}
-use Rattle.coding.specs.declared.Held.TheVariants as held
 use Rattle.coding.specs.Holding.{is_ucs2, holds_text, text_rules}
 use Rattle.letters.specs.Writing.{septets_rules, septets_answers, septets_leaves}
 use Rattle.letters.specs.Reading.{text_of, text_rules as septet_rules, text_answers, text_leaves}
@@ -31,15 +30,13 @@ use Rattle.lettered.specs.LetteredPage.{lettered_size_rules, lettered_read_rules
 use Rattle.answers.specs.declared.Answer.{Answer}
 use Rattle.answers.specs.declared.ReadAnswer.{ReadAnswer}
 use Rattle.names.specs.declared.ReadingNumbers.{ReadingNumbers}
-use Rattle.words.specs.declared.NamedService.{NamedService}
-use Rattle.words.specs.declared.NamedService.TheVariants as service
-use Rattle.names.specs.declared.NamedReading.{NamedReading}
-use Rattle.names.specs.declared.NamedReading.TheVariants as reading
 use Rattle.words.specs.Services.{named_service, under_service}
 use Rattle.names.specs.Names.{named_reading, under_reading}
 use Rattle.answers.specs.Answers.{refused_answer, read_refused_answer, filled_answer, packed_answer, octet_written_answer, message_written_answer, octet_read_answer, held_answer, message_read_answer}
 use Rattle.wikuay.specs.Calls.{read_coding_gives, write_coding_gives, holds_text_gives, pack_gives, pack_keeps, unpack_gives, unpack_keeps, text_to_septets_gives, text_to_septets_keeps, septets_to_text_gives, septets_to_text_keeps, read_message_gives, read_message_keeps, write_message_gives, write_message_keeps}
 use Rattle.wikuay.specs.Refusing.{among, Judged}
+use Rattle.std.specs.Prelude.{Option, Ok, Some, None}
+use Rattle.coding.specs.declared.Held.TheVariants as held
 
 -- ---- said once, of any rules
 
@@ -95,36 +92,36 @@ wikuay-read-coding-refuses n coding = of-service (named_service n)
     of Ussd = refl
     of OldPage = refl
 
-    of-service : (v : NamedService) → Judged read_number read_refused_answer (8 ∷ 2 ∷ []) (under_service v (read_refused_answer Unwritable) (λ s. octet_read_answer (octet_reads s coding))) [] []
-    of-service (service.Named s) = judged-alone read_number read_refused_answer (8 ∷ 2 ∷ []) (octet_rules s coding) (of s) octet_read_answer _ _ (λ q. refl) refl
-    of-service service.Unnamed = inr (Unwritable, (refl, (refl, refl)))
+    of-service : (v : Option Service) → Judged read_number read_refused_answer (8 ∷ 2 ∷ []) (under_service v (read_refused_answer Unwritable) (λ s. octet_read_answer (octet_reads s coding))) [] []
+    of-service (Some s) = judged-alone read_number read_refused_answer (8 ∷ 2 ∷ []) (octet_rules s coding) (of s) octet_read_answer _ _ (λ q. refl) refl
+    of-service None = inr (Unwritable, (refl, (refl, refl)))
 
 pub wikuay-write-coding-refuses : (n : ℕ) (x : ReadingNumbers) → Judged answer_number refused_answer (8 ∷ []) (write_coding_gives n x) [] []
 unfolding write_coding_gives octet_writes alone_rules
 wikuay-write-coding-refuses n x = of-service (named_service n)
   where
-    of-reading : (s : Service) (v : NamedReading) → Judged answer_number refused_answer (8 ∷ []) (under_reading v (refused_answer Unwritable) (λ r. octet_written_answer (octet_writes s r))) [] []
-    of-reading s (reading.Named r) = judged-alone answer_number refused_answer (8 ∷ []) (alone_rules s r) refl octet_written_answer _ _ (λ q. refl) refl
-    of-reading s reading.Unnamed = inr (Unwritable, (refl, (refl, refl)))
+    of-reading : (s : Service) (v : Option Reading) → Judged answer_number refused_answer (8 ∷ []) (under_reading v (refused_answer Unwritable) (λ r. octet_written_answer (octet_writes s r))) [] []
+    of-reading s (Some r) = judged-alone answer_number refused_answer (8 ∷ []) (alone_rules s r) refl octet_written_answer _ _ (λ q. refl) refl
+    of-reading s None = inr (Unwritable, (refl, (refl, refl)))
 
-    of-service : (v : NamedService)
+    of-service : (v : Option Service)
         → Judged answer_number refused_answer (8 ∷ [])
         (under_service v (refused_answer Unwritable) (λ s. under_reading (named_reading x) (refused_answer Unwritable) (λ r. octet_written_answer (octet_writes s r)))) [] []
-    of-service (service.Named s) = of-reading s (named_reading x)
-    of-service service.Unnamed = inr (Unwritable, (refl, (refl, refl)))
+    of-service (Some s) = of-reading s (named_reading x)
+    of-service None = inr (Unwritable, (refl, (refl, refl)))
 
 pub wikuay-holds-text-refuses : (x : ReadingNumbers) → Judged read_number read_refused_answer (8 ∷ 1 ∷ 2 ∷ 3 ∷ []) (holds_text_gives x) [] []
 unfolding holds_text_gives holds_text text_rules
 wikuay-holds-text-refuses x = of-reading (named_reading x)
   where
-    held-number : (b : Bool) → (held_answer (cond b held.Units held.Septets)).refusal ≡ 0
+    held-number : (b : Bool) → (held_answer (cond b (Ok held.Units) (Ok held.Septets))).refusal ≡ 0
     held-number true = refl
     held-number false = refl
 
-    of-reading : (v : NamedReading) → Judged read_number read_refused_answer (8 ∷ 1 ∷ 2 ∷ 3 ∷ []) (under_reading v (read_refused_answer Unwritable) (λ r. held_answer (holds_text ShortMessage r))) [] []
-    of-reading (reading.Named r) =
+    of-reading : (v : Option Reading) → Judged read_number read_refused_answer (8 ∷ 1 ∷ 2 ∷ 3 ∷ []) (under_reading v (read_refused_answer Unwritable) (λ r. held_answer (holds_text ShortMessage r))) [] []
+    of-reading (Some r) =
         judged-alone read_number read_refused_answer (8 ∷ 1 ∷ 2 ∷ 3 ∷ []) (text_rules ShortMessage r) refl held_answer _ _ (λ q. refl) (held-number (is_ucs2 r.alphabet))
-    of-reading reading.Unnamed = inr (Unwritable, (refl, (refl, refl)))
+    of-reading None = inr (Unwritable, (refl, (refl, refl)))
 
 -- ---- packing and the alphabet
 
@@ -132,22 +129,22 @@ pub wikuay-pack-refuses : (n : ℕ) (septets out : List ℕ) → Judged answer_n
 unfolding pack_gives pack_keeps pack_answers pack_leaves pack_rules
 wikuay-pack-refuses n septets out = of-service (named_service n)
   where
-    of-service : (v : NamedService)
+    of-service : (v : Option Service)
         → Judged answer_number refused_answer (8 ∷ 9 ∷ 5 ∷ 7 ∷ []) (under_service v (refused_answer Unwritable) (λ s. packed_answer (pack_answers s septets (length out)))) out
         (under_service v out (λ s. pack_leaves s septets out))
-    of-service (service.Named s) = judged answer_number refused_answer (8 ∷ 9 ∷ 5 ∷ 7 ∷ []) (pack_rules s septets (length out)) refl packed_answer _ _ (λ q. refl) refl out _
-    of-service service.Unnamed = inr (Unwritable, (refl, (refl, refl)))
+    of-service (Some s) = judged answer_number refused_answer (8 ∷ 9 ∷ 5 ∷ 7 ∷ []) (pack_rules s septets (length out)) refl packed_answer _ _ (λ q. refl) refl out _
+    of-service None = inr (Unwritable, (refl, (refl, refl)))
 
 pub wikuay-unpack-refuses : (n : ℕ) (o : List ℕ) (count : ℕ) (out : List ℕ)
     → Judged answer_number refused_answer (8 ∷ 4 ∷ 7 ∷ []) (unpack_gives n o count (length out)) out (unpack_keeps n o count out)
 unfolding unpack_gives unpack_keeps unpack_answers unpack_leaves unpack_rules
 wikuay-unpack-refuses n o count out = of-service (named_service n)
   where
-    of-service : (v : NamedService)
+    of-service : (v : Option Service)
         → Judged answer_number refused_answer (8 ∷ 4 ∷ 7 ∷ []) (under_service v (refused_answer Unwritable) (λ s. filled_answer (unpack_answers s o count (length out)))) out
         (under_service v out (λ s. unpack_leaves s o count out))
-    of-service (service.Named s) = judged answer_number refused_answer (8 ∷ 4 ∷ 7 ∷ []) (unpack_rules s o count (length out)) refl filled_answer _ _ (λ q. refl) refl out _
-    of-service service.Unnamed = inr (Unwritable, (refl, (refl, refl)))
+    of-service (Some s) = judged answer_number refused_answer (8 ∷ 4 ∷ 7 ∷ []) (unpack_rules s o count (length out)) refl filled_answer _ _ (λ q. refl) refl out _
+    of-service None = inr (Unwritable, (refl, (refl, refl)))
 
 pub wikuay-text-to-septets-refuses : (text out : List ℕ) → Judged answer_number refused_answer (6 ∷ 7 ∷ []) (text_to_septets_gives text (length out)) out (text_to_septets_keeps text out)
 unfolding text_to_septets_gives septets_answers septets_leaves septets_rules
@@ -179,12 +176,12 @@ wikuay-read-message-refuses n coding count o out = of-service (named_service n)
     of Ussd = refl
     of OldPage = refl
 
-    of-service : (v : NamedService)
+    of-service : (v : Option Service)
         → Judged read_number read_refused_answer (8 ∷ 1 ∷ 2 ∷ 3 ∷ 4 ∷ 11 ∷ 7 ∷ []) (under_service v (read_refused_answer Unwritable) (λ s. message_read_answer (read_answers s coding count o (length out)))) out
         (under_service v out (λ s. read_leaves s coding count o out))
-    of-service (service.Named s) =
+    of-service (Some s) =
         judged read_number read_refused_answer (8 ∷ 1 ∷ 2 ∷ 3 ∷ 4 ∷ 11 ∷ 7 ∷ []) (read_rules s coding count o (length out)) (of s) message_read_answer _ _ (λ q. refl) refl out _
-    of-service service.Unnamed = inr (Unwritable, (refl, (refl, refl)))
+    of-service None = inr (Unwritable, (refl, (refl, refl)))
 
 pub wikuay-write-message-refuses : (n : ℕ) (x : ReadingNumbers) (text out : List ℕ)
     → Judged answer_number refused_answer (8 ∷ 1 ∷ 2 ∷ 3 ∷ 11 ∷ 6 ∷ 5 ∷ 7 ∷ []) (write_message_gives n x text (length out)) out (write_message_keeps n x text out)
@@ -195,17 +192,17 @@ wikuay-write-message-refuses n x text out = of-service (named_service n)
     of s r true = refl
     of s r false = refl
 
-    of-reading : (s : Service) (v : NamedReading)
+    of-reading : (s : Service) (v : Option Reading)
         → Judged answer_number refused_answer (8 ∷ 1 ∷ 2 ∷ 3 ∷ 11 ∷ 6 ∷ 5 ∷ 7 ∷ [])
         (under_reading v (refused_answer Unwritable) (λ r. message_written_answer (write_answers s r text (length out)))) out
         (under_reading v out (λ r. write_leaves s r text out))
-    of-reading s (reading.Named r) =
+    of-reading s (Some r) =
         judged answer_number refused_answer (8 ∷ 1 ∷ 2 ∷ 3 ∷ 11 ∷ 6 ∷ 5 ∷ 7 ∷ []) (write_rules s r text (length out)) (of s r (is_lettered s r)) message_written_answer _ _ (λ q. refl) refl out _
-    of-reading s reading.Unnamed = inr (Unwritable, (refl, (refl, refl)))
+    of-reading s None = inr (Unwritable, (refl, (refl, refl)))
 
-    of-service : (v : NamedService)
+    of-service : (v : Option Service)
         → Judged answer_number refused_answer (8 ∷ 1 ∷ 2 ∷ 3 ∷ 11 ∷ 6 ∷ 5 ∷ 7 ∷ [])
         (under_service v (refused_answer Unwritable) (λ s. under_reading (named_reading x) (refused_answer Unwritable) (λ r. message_written_answer (write_answers s r text (length out))))) out
         (under_service v out (λ s. under_reading (named_reading x) out (λ r. write_leaves s r text out)))
-    of-service (service.Named s) = of-reading s (named_reading x)
-    of-service service.Unnamed = inr (Unwritable, (refl, (refl, refl)))
+    of-service (Some s) = of-reading s (named_reading x)
+    of-service None = inr (Unwritable, (refl, (refl, refl)))

@@ -6,13 +6,12 @@
 --   named_meter m      == the record that the numbers m name, if their service is one
 --   under n none give  == what give says of a record that is named, or none
 --   under_meter m give == a call: what give says of the record that is named, in numbers, or that refusal
-use Rattle.std.specs.Prelude.{ℕ, pos}
+use Rattle.std.specs.Prelude.{ℕ, pos, Ok}
 use Rattle.words.specs.declared.Refusal.TheVariants.{Unwritable}
 use Rattle.words.specs.Refusals.{number_of, position_of}
 use Rattle.words.specs.Services.{named_service, under_service}
 use Rattle.metered.specs.declared.Meter.{Meter}
 use Rattle.metered.specs.declared.Keyed.{Keyed}
-use Rattle.metered.specs.declared.Pressed.TheVariants.{Went}
 use Rattle.metered.specs.Metered.{add, back, clear, remains, keyed, pressed_number, pressed_position}
 use Rattle.wikuay.specs.declared.meters.NamedMeter.{NamedMeter}
 use Rattle.wikuay.specs.declared.meters.NamedMeter.TheVariants.{Named, Unnamed}
@@ -42,7 +41,7 @@ abbrev pub under_meter : MeterNumbers → (Meter → Keyed) → MeterAnswer
 under_meter m give = under (named_meter m) (unnamed_meter m) (λ x. shown_for m.service (give x))
 
 unfoldable pub room_left_gives : MeterNumbers → MeterAnswer
-room_left_gives m = under_meter m (λ x. record { meter = x; answer = Went })
+room_left_gives m = under_meter m (λ x. record { meter = x; answer = (Ok tt) })
 
 unfoldable pub new_meter_gives : ℕ → MeterAnswer
 new_meter_gives n = room_left_gives (record { service = n; used = 0 })

@@ -5,9 +5,9 @@ ghost use Rattle.pages.specs.Reports.{counted_pages, pages_pages, join_pages};
 ghost use Rattle.page_answers.specs.PageAnswers.{counted_answer, pages_written_answer, joined_answer};
 ghost use Rattle.wikuay.specs.PageCalls.{read_header_gives, count_pages_gives, build_page_gives, write_pages_gives, write_pages_keeps, join_pages_gives, join_pages_keeps};
 
-use names::{NamedReading, ReadingNumbers};
+use names::ReadingNumbers;
 use page_answers::{Block, BlockHeader, JoinAnswer, PageAnswer, PagesAnswer};
-use pages::{Counted, Joined, PagesWritten};
+use pages::{Joined, PagesWritten};
 use words::Refusal;
 
 // The header of a block. It refuses nothing.
@@ -23,8 +23,8 @@ pub fn wikuay_count_pages(reading: ReadingNumbers, text: &[u16]) -> PagesAnswer
     ensures answer { result ≡ count_pages_gives reading text.now }
 {
     match names::reading(reading) {
-        NamedReading::Named(reading) => counted(paging::count_pages(reading, text)),
-        NamedReading::Unnamed => page_answers::pages_refused(Refusal::Unwritable),
+        Some(reading) => counted(paging::count_pages(reading, text)),
+        None => page_answers::pages_refused(Refusal::Unwritable),
     }
 }
 
@@ -39,13 +39,13 @@ pub fn wikuay_build_page(
     ensures answer { result ≡ build_page_gives sequence identifier reading text.now number }
 {
     match names::reading(reading) {
-        NamedReading::Named(reading) => {
+        Some(reading) => {
             let page = paging::build_page(sequence, identifier, reading, text, number);
             let answer = page.answer;
             let octets = page.block;
             page_answers::page(counted(answer), octets)
         }
-        NamedReading::Unnamed => page_answers::page(
+        None => page_answers::page(
             page_answers::pages_refused(Refusal::Unwritable),
             [0u8; 88],
         ),
@@ -65,10 +65,10 @@ pub fn wikuay_write_pages(
     ensures buffer { out.new ≡ write_pages_keeps sequence identifier reading text.now out.old }
 {
     match names::reading(reading) {
-        NamedReading::Named(reading) => {
+        Some(reading) => {
             pages_written(paging::write_pages(sequence, identifier, reading, text, out))
         }
-        NamedReading::Unnamed => page_answers::pages_refused(Refusal::Unwritable),
+        None => page_answers::pages_refused(Refusal::Unwritable),
     }
 }
 
@@ -82,40 +82,40 @@ pub fn wikuay_join_pages(blocks: &[u8], out: &mut [u16]) -> JoinAnswer
 }
 
 // The answer of counting pages in numbers, and of building one beside its block. No message has over 15 pages.
-fn counted(answer: Counted) -> PagesAnswer
+fn counted(answer: Result<usize, Refusal>) -> PagesAnswer
     requires { counted_pages answer ≤ 15 }
     ensures { result ≡ counted_answer answer }
 {
     match answer {
-        Counted::Pages(pages) => page_answers::pages_done(pages as u32, 0),
-        Counted::Refused(refusal) => page_answers::pages_refused(refusal),
+        Ok(pages) => page_answers::pages_done(pages as u32, 0),
+        Err(refusal) => page_answers::pages_refused(refusal),
     }
 }
 
 // The answer of writing all pages in numbers.
-fn pages_written(answer: PagesWritten) -> PagesAnswer
+fn pages_written(answer: Result<PagesWritten, Refusal>) -> PagesAnswer
     requires { pages_pages answer ≤ 15 }
     ensures { result ≡ pages_written_answer answer }
 {
     match answer {
-        PagesWritten::Done { octets, pages } => page_answers::pages_done(pages as u32, octets),
-        PagesWritten::Refused(refusal) => page_answers::pages_refused(refusal),
+        Ok(PagesWritten { octets, pages }) => page_answers::pages_done(pages as u32, octets),
+        Err(refusal) => page_answers::pages_refused(refusal),
     }
 }
 
 // The answer of joining pages in numbers.
-fn joined(answer: Joined) -> JoinAnswer
+fn joined(answer: Result<Joined, Refusal>) -> JoinAnswer
     requires { join_pages answer ≤ 15 }
     ensures { result ≡ joined_answer answer }
 {
     match answer {
-        Joined::Done {
+        Ok(Joined {
             units,
             reading,
             sequence,
             identifier,
             pages,
-        } => page_answers::join_done(pages as u32, units, sequence, identifier, reading),
-        Joined::Refused(refusal) => page_answers::join_refused(refusal),
+        }) => page_answers::join_done(pages as u32, units, sequence, identifier, reading),
+        Err(refusal) => page_answers::join_refused(refusal),
     }
 }

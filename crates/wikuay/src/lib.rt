@@ -12,9 +12,9 @@ ghost use Rattle.wikuay.specs.Calls.{version_gives, read_coding_gives, write_cod
 use answers::{Answer, MessageTold, ReadAnswer};
 use demands::MessageWritten;
 use names::said::Heard;
-use names::{NamedReading, ReadingNumbers, said};
+use names::{ReadingNumbers, said};
 use stream::Packed;
-use words::{NamedService, Refusal, Service};
+use words::{Refusal, Service};
 
 pub mod broadcasts;
 pub mod long_messages;
@@ -32,8 +32,8 @@ pub fn wikuay_read_coding(service: u32, coding: u8) -> ReadAnswer
     ensures answer { result ≡ read_coding_gives service coding }
 {
     match words::named_service(service) {
-        NamedService::Named(service) => answers::octet_read(coding::read_octet(service, coding)),
-        NamedService::Unnamed => answers::read_refused(Refusal::Unwritable),
+        Some(service) => answers::octet_read(coding::read_octet(service, coding)),
+        None => answers::read_refused(Refusal::Unwritable),
     }
 }
 
@@ -42,11 +42,11 @@ pub fn wikuay_write_coding(service: u32, reading: ReadingNumbers) -> Answer
     ensures answer { result ≡ write_coding_gives service reading }
 {
     match words::named_service(service) {
-        NamedService::Named(service) => match names::reading(reading) {
-            NamedReading::Named(reading) => answers::octet_written(reading.write(service)),
-            NamedReading::Unnamed => answers::refused(Refusal::Unwritable),
+        Some(service) => match names::reading(reading) {
+            Some(reading) => answers::octet_written(reading.write(service)),
+            None => answers::refused(Refusal::Unwritable),
         },
-        NamedService::Unnamed => answers::refused(Refusal::Unwritable),
+        None => answers::refused(Refusal::Unwritable),
     }
 }
 
@@ -55,8 +55,8 @@ pub fn wikuay_holds_text(reading: ReadingNumbers) -> ReadAnswer
     ensures answer { result ≡ holds_text_gives reading }
 {
     match names::reading(reading) {
-        NamedReading::Named(reading) => answers::held(reading.holds(Service::ShortMessage)),
-        NamedReading::Unnamed => answers::read_refused(Refusal::Unwritable),
+        Some(reading) => answers::held(reading.holds(Service::ShortMessage)),
+        None => answers::read_refused(Refusal::Unwritable),
     }
 }
 
@@ -66,8 +66,8 @@ pub fn wikuay_pack(service: u32, septets: &[u8], out: &mut [u8]) -> Answer
     ensures buffer { out.new ≡ pack_keeps service septets.now out.old }
 {
     match words::named_service(service) {
-        NamedService::Named(service) => packed(packing::pack(service, septets, out)),
-        NamedService::Unnamed => answers::refused(Refusal::Unwritable),
+        Some(service) => packed(packing::pack(service, septets, out)),
+        None => answers::refused(Refusal::Unwritable),
     }
 }
 
@@ -77,10 +77,10 @@ pub fn wikuay_unpack(service: u32, octets: &[u8], count: usize, out: &mut [u8]) 
     ensures buffer { out.new ≡ unpack_keeps service octets.now count out.old }
 {
     match words::named_service(service) {
-        NamedService::Named(service) => {
+        Some(service) => {
             answers::filled(packing::unpack(service, octets, count, out))
         }
-        NamedService::Unnamed => answers::refused(Refusal::Unwritable),
+        None => answers::refused(Refusal::Unwritable),
     }
 }
 
@@ -125,12 +125,12 @@ pub fn wikuay_write_message(
     ensures buffer { out.new ≡ write_message_keeps service reading text.now out.old }
 {
     match words::named_service(service) {
-        NamedService::Named(service) => message_written(writer::write_coded(
+        Some(service) => message_written(writer::write_coded(
             said::coded(service, reading),
             text,
             out,
         )),
-        NamedService::Unnamed => answers::refused(Refusal::Unwritable),
+        None => answers::refused(Refusal::Unwritable),
     }
 }
 
@@ -140,7 +140,7 @@ fn read_told(service: u32, coding: u8, count: usize, octets: &[u8], out: &mut [u
     ensures out_after { out.new ≡ read_message_keeps service coding count octets.now out.old }
 {
     match words::named_service(service) {
-        NamedService::Named(service) => match said::hears(service, coding) {
+        Some(service) => match said::hears(service, coding) {
             Heard::Text { ucs2, reading } => answers::shown(
                 reading,
                 reader::read_text(service, ucs2, count, octets, out),
@@ -151,32 +151,32 @@ fn read_told(service: u32, coding: u8, count: usize, octets: &[u8], out: &mut [u
             ),
             Heard::Refused(refusal) => answers::message_refused(refusal),
         },
-        NamedService::Unnamed => answers::message_refused(Refusal::Unwritable),
+        None => answers::message_refused(Refusal::Unwritable),
     }
 }
 
 // The answer of packing in numbers. No count is over 160.
-fn packed(answer: Packed) -> Answer
+fn packed(answer: Result<Packed, Refusal>) -> Answer
     requires { packed_count answer ≤ 160 }
     ensures { result ≡ packed_answer answer }
 {
     match answer {
-        Packed::Done { octets, count } => answers::done(count as u32, octets, 0),
-        Packed::Refused(refusal) => answers::refused(refusal),
+        Ok(Packed { octets, count }) => answers::done(count as u32, octets, 0),
+        Err(refusal) => answers::refused(refusal),
     }
 }
 
 // The answer of the whole writer in numbers. No count is over 160.
-fn message_written(answer: MessageWritten) -> Answer
+fn message_written(answer: Result<MessageWritten, Refusal>) -> Answer
     requires { write_count answer ≤ 160 }
     ensures { result ≡ message_written_answer answer }
 {
     match answer {
-        MessageWritten::Done {
+        Ok(MessageWritten {
             octets,
             count,
             coding,
-        } => answers::done(count as u32, octets, coding),
-        MessageWritten::Refused(refusal) => answers::refused(refusal),
+        }) => answers::done(count as u32, octets, coding),
+        Err(refusal) => answers::refused(refusal),
     }
 }

@@ -5,9 +5,9 @@ ghost use Rattle.parted.specs.Reports.{counted_parts, part_travels, part_parts, 
 ghost use Rattle.part_answers.specs.PartAnswers.{counted_answer, part_written_answer, parts_written_answer, parts_joined_answer};
 ghost use Rattle.wikuay.specs.PartCalls.{read_part_gives, read_part_keeps, count_parts_gives, write_part_gives, write_part_keeps, write_parts_gives, write_parts_keeps, write_parts_lists, join_parts_gives, join_parts_keeps};
 
-use names::{NamedReading, ReadingNumbers};
+use names::ReadingNumbers;
 use part_answers::{PartAnswer, PartsAnswer, PartsJoinAnswer};
-use parted::{Counted, PartWritten, PartsJoined, PartsWritten};
+use parted::{PartWritten, PartsJoined, PartsWritten};
 use words::Refusal;
 
 // Reads one short message, where the mark says whether a header stands in front: 1, or 0. Refuses 8, 1, 2, 4, 12, 4, 7, and then leaves the buffer as it
@@ -33,8 +33,8 @@ pub fn wikuay_count_parts(reading: ReadingNumbers, text: &[u16]) -> PartsAnswer
     ensures answer { result ≡ count_parts_gives reading text.now }
 {
     match names::reading(reading) {
-        NamedReading::Named(reading) => counted(parts::count_parts(reading, text)),
-        NamedReading::Unnamed => part_answers::parts_refused(Refusal::Unwritable),
+        Some(reading) => counted(parts::count_parts(reading, text)),
+        None => part_answers::parts_refused(Refusal::Unwritable),
     }
 }
 
@@ -50,10 +50,10 @@ pub fn wikuay_write_part(
     ensures buffer { out.new ≡ write_part_keeps reading reference text.now number out.old }
 {
     match names::reading(reading) {
-        NamedReading::Named(reading) => {
+        Some(reading) => {
             part_written(parts::write_part(reading, reference, text, number, out))
         }
-        NamedReading::Unnamed => part_answers::parts_refused(Refusal::Unwritable),
+        None => part_answers::parts_refused(Refusal::Unwritable),
     }
 }
 
@@ -71,10 +71,10 @@ pub fn wikuay_write_parts(
     ensures sizes { sizes.new ≡ write_parts_lists reading reference text.now (length out.old) sizes.old }
 {
     match names::reading(reading) {
-        NamedReading::Named(reading) => {
+        Some(reading) => {
             parts_written(parts::write_parts(reading, reference, text, out, sizes))
         }
-        NamedReading::Unnamed => part_answers::parts_refused(Refusal::Unwritable),
+        None => part_answers::parts_refused(Refusal::Unwritable),
     }
 }
 
@@ -93,61 +93,61 @@ pub fn wikuay_join_parts(
 }
 
 // The answer of counting parts in numbers. No message has over 255 parts.
-fn counted(answer: Counted) -> PartsAnswer
+fn counted(answer: Result<usize, Refusal>) -> PartsAnswer
     requires { counted_parts answer ≤ 255 }
     ensures { result ≡ counted_answer answer }
 {
     match answer {
-        Counted::Parts(parts) => part_answers::parts_done(parts as u32, 0, 0, 0, false),
-        Counted::Refused(refusal) => part_answers::parts_refused(refusal),
+        Ok(parts) => part_answers::parts_done(parts as u32, 0, 0, 0, false),
+        Err(refusal) => part_answers::parts_refused(refusal),
     }
 }
 
 // The answer of writing one part in numbers. No count is over 160.
-fn part_written(answer: PartWritten) -> PartsAnswer
+fn part_written(answer: Result<PartWritten, Refusal>) -> PartsAnswer
     requires { (part_parts answer ≤ 255) × (part_travels answer ≤ 160) }
     ensures { result ≡ part_written_answer answer }
 {
     match answer {
-        PartWritten::Done {
+        Ok(PartWritten {
             octets,
             count,
             marked,
             coding,
             parts,
-        } => part_answers::parts_done(parts as u32, octets, count as u32, coding, marked),
-        PartWritten::Refused(refusal) => part_answers::parts_refused(refusal),
+        }) => part_answers::parts_done(parts as u32, octets, count as u32, coding, marked),
+        Err(refusal) => part_answers::parts_refused(refusal),
     }
 }
 
 // The answer of writing all parts in numbers.
-fn parts_written(answer: PartsWritten) -> PartsAnswer
+fn parts_written(answer: Result<PartsWritten, Refusal>) -> PartsAnswer
     requires { parts_parts answer ≤ 255 }
     ensures { result ≡ parts_written_answer answer }
 {
     match answer {
-        PartsWritten::Done {
+        Ok(PartsWritten {
             octets,
             marked,
             coding,
             parts,
-        } => part_answers::parts_done(parts as u32, octets, 0, coding, marked),
-        PartsWritten::Refused(refusal) => part_answers::parts_refused(refusal),
+        }) => part_answers::parts_done(parts as u32, octets, 0, coding, marked),
+        Err(refusal) => part_answers::parts_refused(refusal),
     }
 }
 
 // The answer of joining parts in numbers.
-fn joined(answer: PartsJoined) -> PartsJoinAnswer
+fn joined(answer: Result<PartsJoined, Refusal>) -> PartsJoinAnswer
     requires { join_parts answer ≤ 255 }
     ensures { result ≡ parts_joined_answer answer }
 {
     match answer {
-        PartsJoined::Done {
+        Ok(PartsJoined {
             units,
             reading,
             reference,
             parts,
-        } => part_answers::join_done(parts as u32, units, reference, reading),
-        PartsJoined::Refused(refusal) => part_answers::join_refused(refusal),
+        }) => part_answers::join_done(parts as u32, units, reference, reading),
+        Err(refusal) => part_answers::join_refused(refusal),
     }
 }

@@ -3,8 +3,8 @@
 ghost use Rattle.std.specs.Prelude.{◌≡◌};
 ghost use Rattle.wikuay.specs.MeterCalls.{named_meter, shown_for, unnamed_meter, new_meter_gives, room_left_gives, unit_added_gives, unit_taken_back_gives, meter_cleared_gives};
 
-use metered::{Keyed, Meter, Pressed};
-use words::{NamedService, Refusal};
+use metered::{Keyed, Meter};
+use words::Refusal;
 
 // The record of a meter.
 #[repr(C)]
@@ -50,7 +50,7 @@ pub fn wikuay_room_left(meter: MeterNumbers) -> MeterAnswer
         NamedMeter::Named(known) => {
             let kept = Keyed {
                 meter: known,
-                answer: Pressed::Went,
+                answer: Ok(()),
             };
             shown(meter.service, kept)
         }
@@ -93,14 +93,14 @@ fn named(meter: MeterNumbers) -> NamedMeter
     ensures { result ≡ named_meter meter }
 {
     match words::named_service(meter.service) {
-        NamedService::Named(service) => {
+        Some(service) => {
             let known = Meter {
                 service: service,
                 used: meter.used,
             };
             NamedMeter::Named(known)
         }
-        NamedService::Unnamed => NamedMeter::Unnamed,
+        None => NamedMeter::Unnamed,
     }
 }
 
@@ -116,13 +116,13 @@ fn shown(service: u32, key: Keyed) -> MeterAnswer
     };
     let answer = key.answer;
     match answer {
-        Pressed::Went => MeterAnswer {
+        Ok(()) => MeterAnswer {
             refusal: 0,
             position: 0,
             left: left,
             meter: numbers,
         },
-        Pressed::Refused(refusal) => {
+        Err(refusal) => {
             let plain = answers::refused(refusal);
             MeterAnswer {
                 refusal: plain.refusal,

@@ -11,9 +11,6 @@ use Rattle.words.specs.declared.Service.{Service}
 use Rattle.words.specs.Judging.{verdict}
 use Rattle.coding.specs.declared.Reading.{Reading}
 use Rattle.coding.specs.declared.Held.{Held}
-use Rattle.coding.specs.declared.Held.TheVariants as held
-use Rattle.coding.specs.declared.OctetWritten.{OctetWritten}
-use Rattle.coding.specs.declared.OctetWritten.TheVariants as octet-written
 use Rattle.coding.specs.LanguageLetters.{is_lettered, coding_writes}
 use Rattle.coding.specs.Holding.{text_rules, holds_text}
 use Rattle.coding.specs.Readings.{plain_in}
@@ -21,31 +18,33 @@ use Rattle.demands.specs.MessageWritten.{write_answers, write_leaves}
 use Rattle.demands.proofs.Steps.{text-writes, none-writes, write-refused}
 use Rattle.demands.proofs.LetteredSteps.{lettered-writes}
 use Rattle.writer.specs.declared.MessageCoding.TheVariants as coding
-use Rattle.writer.specs.declared.Settled.TheVariants as settled
 use Rattle.writer.specs.Settled.{settled_by, settled_as, settled_writes, settled_leaves}
 use Rattle.writer.specs.Coded.{lettered_by, coded_as, coded_writes, coded_leaves}
+use Rattle.std.specs.Prelude.{Result, Ok, Err}
+use Rattle.words.specs.declared.Refusal.{Refusal}
+use Rattle.coding.specs.declared.Held.TheVariants as held
 
 pub settled-writes : (s : Service) (r : Reading) (us out : List ℕ) → is_lettered s r ≡ false
     → (settled_writes (settled_as s r) us (length out) ≡ write_answers s r us (length out)) × (settled_leaves (settled_as s r) us out ≡ write_leaves s r us out)
 unfolding settled_as
 settled-writes s r us out l = go (coding_writes s r) refl (holds_text s r) refl
   where
-    go : (w : OctetWritten) → w ≡ coding_writes s r → (h : Held) → h ≡ holds_text s r
+    go : (w : Result ℕ Refusal) → w ≡ coding_writes s r → (h : Result Held Refusal) → h ≡ holds_text s r
         → (settled_writes (settled_by s w h) us (length out) ≡ write_answers s r us (length out)) × (settled_leaves (settled_by s w h) us out ≡ write_leaves s r us out)
-    go (octet-written.Done octet) e held.Septets f = text-writes s r octet us out false e f
-    go (octet-written.Done octet) e held.Units f = text-writes s r octet us out true e f
-    go (octet-written.Done octet) e (held.Refused q) f = none-writes s r octet us out q e l f
-    go (octet-written.Refused q) e h f = write-refused s r us out q e
+    go (Ok octet) e (Ok held.Septets) f = text-writes s r octet us out false e f
+    go (Ok octet) e (Ok held.Units) f = text-writes s r octet us out true e f
+    go (Ok octet) e (Err q) f = none-writes s r octet us out q e l f
+    go (Err q) e h f = write-refused s r us out q e
 
 pub coded-writes : (s : Service) (r : Reading) (us out : List ℕ)
     → (coded_writes (coded_as s r) us (length out) ≡ write_answers s r us (length out)) × (coded_leaves (coded_as s r) us out ≡ write_leaves s r us out)
 unfolding coded_as
 coded-writes s r us out = go (is_lettered s r) refl
   where
-    octet : (w : OctetWritten) → w ≡ coding_writes s r → is_lettered s r ≡ true
+    octet : (w : Result ℕ Refusal) → w ≡ coding_writes s r → is_lettered s r ≡ true
         → (coded_writes (lettered_by r w) us (length out) ≡ write_answers s r us (length out)) × (coded_leaves (lettered_by r w) us out ≡ write_leaves s r us out)
-    octet (octet-written.Done o) e l = lettered-writes s r o us out e l
-    octet (octet-written.Refused q) e l = write-refused s r us out q e
+    octet (Ok o) e l = lettered-writes s r o us out e l
+    octet (Err q) e l = write-refused s r us out q e
 
     go : (b : Bool) → is_lettered s r ≡ b
         → (coded_writes (cond b (lettered_by r (coding_writes s r)) (coding.Text (settled_as s r))) us (length out) ≡ write_answers s r us (length out))
@@ -54,7 +53,7 @@ coded-writes s r us out = go (is_lettered s r) refl
     go false l = settled-writes s r us out l
 
 pub plain-settled : (s : Service) (ucs2 : Bool) (octet : ℕ)
-    → settled.Text (record { service = s; octet = octet; ucs2 = ucs2 }) ≡ settled_by s (octet-written.Done octet) (holds_text s (plain_in ucs2))
+    → Ok (record { service = s; octet = octet; ucs2 = ucs2 }) ≡ settled_by s (Ok octet) (holds_text s (plain_in ucs2))
 unfolding holds_text text_rules verdict
 plain-settled s true octet = refl
 plain-settled s false octet = refl

@@ -4,28 +4,26 @@
 --   lettered_by r octet        == what is settled of a page behind letters, by the coding octet that its reading r is written with
 --   coded_as service r         == what the reading r settles of one message under the service
 --   coded_writes, coded_leaves == what write_coded answers, and what it leaves in the lent buffer
-use Rattle.std.specs.Prelude.{ℕ, cond, List}
+use Rattle.std.specs.Prelude.{ℕ, cond, List, Result, Ok, Err}
 use Rattle.words.specs.declared.Service.{Service}
 use Rattle.coding.specs.declared.Reading.{Reading}
-use Rattle.coding.specs.declared.OctetWritten.{OctetWritten}
-use Rattle.coding.specs.declared.OctetWritten.TheVariants as octet-written
 use Rattle.coding.specs.LanguageLetters.{is_lettered, coding_writes}
 use Rattle.coding.specs.Holding.{is_ucs2}
 use Rattle.demands.specs.declared.MessageWritten.{MessageWritten}
 use Rattle.demands.specs.MessageWritten.{page_writes, page_write_leaves}
 use Rattle.writer.specs.declared.MessageCoding.{MessageCoding}
 use Rattle.writer.specs.declared.MessageCoding.TheVariants as coding
-use Rattle.writer.specs.declared.Settled.TheVariants as settled
 use Rattle.writer.specs.Settled.{settled_as, settled_writes, settled_leaves}
+use Rattle.words.specs.declared.Refusal.{Refusal}
 
-abbrev pub lettered_by : Reading → OctetWritten → MessageCoding
-lettered_by r (octet-written.Done octet) = coding.Lettered (record { octet = octet; ucs2 = is_ucs2 r.alphabet; letters = r.letters })
-lettered_by r (octet-written.Refused q) = coding.Text (settled.Refused q)
+abbrev pub lettered_by : Reading → Result ℕ Refusal → MessageCoding
+lettered_by r (Ok octet) = coding.Lettered (record { octet = octet; ucs2 = is_ucs2 r.alphabet; letters = r.letters })
+lettered_by r (Err q) = coding.Text (Err q)
 
 unfoldable pub coded_as : Service → Reading → MessageCoding
 coded_as service r = cond (is_lettered service r) (lettered_by r (coding_writes service r)) (coding.Text (settled_as service r))
 
-abbrev pub coded_writes : MessageCoding → List ℕ → ℕ → MessageWritten
+abbrev pub coded_writes : MessageCoding → List ℕ → ℕ → Result MessageWritten Refusal
 coded_writes (coding.Text s) units room = settled_writes s units room
 coded_writes (coding.Lettered c) units room = page_writes c.ucs2 c.letters c.octet units room
 

@@ -5,21 +5,17 @@
 --   held_settled, settled_by       == what is settled, by the coding octet that a reading is written with, and by the text that it holds
 --   settled_as service r           == what the reading r settles under the service
 --   settled_writes, settled_leaves == what write_settled answers, and what it leaves in the lent buffer
-use Rattle.std.specs.Prelude.{ℕ, Bool, true, false, List}
+use Rattle.std.specs.Prelude.{ℕ, Bool, true, false, List, Result, Ok, Err}
 use Rattle.words.specs.declared.Service.{Service}
 use Rattle.coding.specs.declared.Reading.{Reading}
 use Rattle.coding.specs.declared.Held.{Held}
-use Rattle.coding.specs.declared.Held.TheVariants as held
-use Rattle.coding.specs.declared.OctetWritten.{OctetWritten}
-use Rattle.coding.specs.declared.OctetWritten.TheVariants as octet-written
 use Rattle.coding.specs.LanguageLetters.{coding_writes}
 use Rattle.coding.specs.Holding.{holds_text}
 use Rattle.demands.specs.declared.MessageWritten.{MessageWritten}
-use Rattle.demands.specs.declared.MessageWritten.TheVariants as written
 use Rattle.demands.specs.MessageWritten.{text_writes, text_write_leaves}
 use Rattle.writer.specs.declared.TextCoding.{TextCoding}
-use Rattle.writer.specs.declared.Settled.{Settled}
-use Rattle.writer.specs.declared.Settled.TheVariants as settled
+use Rattle.words.specs.declared.Refusal.{Refusal}
+use Rattle.coding.specs.declared.Held.TheVariants as held
 
 -- the fields of a text's coding
 abbrev pub octet_in : TextCoding → ℕ
@@ -28,22 +24,22 @@ octet_in c = c.octet
 abbrev pub ucs2_in : TextCoding → Bool
 ucs2_in c = c.ucs2
 
-abbrev pub held_settled : Service → ℕ → Held → Settled
-held_settled service octet held.Septets = settled.Text (record { service = service; octet = octet; ucs2 = false })
-held_settled service octet held.Units = settled.Text (record { service = service; octet = octet; ucs2 = true })
-held_settled service octet (held.Refused q) = settled.Refused q
+abbrev pub held_settled : Service → ℕ → Result Held Refusal → Result TextCoding Refusal
+held_settled service octet (Ok held.Septets) = Ok (record { service = service; octet = octet; ucs2 = false })
+held_settled service octet (Ok held.Units) = Ok (record { service = service; octet = octet; ucs2 = true })
+held_settled service octet (Err q) = Err q
 
-abbrev pub settled_by : Service → OctetWritten → Held → Settled
-settled_by service (octet-written.Done octet) h = held_settled service octet h
-settled_by service (octet-written.Refused q) h = settled.Refused q
+abbrev pub settled_by : Service → Result ℕ Refusal → Result Held Refusal → Result TextCoding Refusal
+settled_by service (Ok octet) h = held_settled service octet h
+settled_by service (Err q) h = Err q
 
-unfoldable pub settled_as : Service → Reading → Settled
+unfoldable pub settled_as : Service → Reading → Result TextCoding Refusal
 settled_as service r = settled_by service (coding_writes service r) (holds_text service r)
 
-abbrev pub settled_writes : Settled → List ℕ → ℕ → MessageWritten
-settled_writes (settled.Text c) units room = text_writes c.service c.ucs2 c.octet units room
-settled_writes (settled.Refused q) units room = written.Refused q
+abbrev pub settled_writes : Result TextCoding Refusal → List ℕ → ℕ → Result MessageWritten Refusal
+settled_writes (Ok c) units room = text_writes c.service c.ucs2 c.octet units room
+settled_writes (Err q) units room = Err q
 
-abbrev pub settled_leaves : Settled → List ℕ → List ℕ → List ℕ
-settled_leaves (settled.Text c) units out = text_write_leaves c.service c.ucs2 units out
-settled_leaves (settled.Refused q) units out = out
+abbrev pub settled_leaves : Result TextCoding Refusal → List ℕ → List ℕ → List ℕ
+settled_leaves (Ok c) units out = text_write_leaves c.service c.ucs2 units out
+settled_leaves (Err q) units out = out

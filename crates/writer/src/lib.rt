@@ -9,11 +9,11 @@ ghost use Rattle.demands.specs.Inner.{packed_as, units_as};
 ghost use Rattle.writer.specs.Settled.{octet_in, ucs2_in, held_settled, settled_as, settled_writes, settled_leaves};
 ghost use Rattle.writer.specs.Coded.{lettered_by, coded_as, coded_writes, coded_leaves};
 
-use coding::{Held, OctetWritten, Reading};
+use coding::{Held, Reading};
 use demands::MessageWritten;
 use fields::Letters;
 use stream::Packed;
-use words::{Filled, Refusal, Service};
+use words::{Refusal, Service};
 
 // How a text is coded under a service: the coding octet, and whether it is UCS2. Only settle and settle_plain make one.
 #[derive(Clone, Copy)]
@@ -39,14 +39,6 @@ impl TextCoding {
     }
 }
 
-// What settles how a text is written.
-#[derive(Clone, Copy)]
-pub enum Settled {
-    Text(TextCoding),
-    // Why none is written so.
-    Refused(Refusal),
-}
-
 // How a broadcast page behind the letters of its language is coded: the coding octet, whether it is UCS2, the letters. Only code_message makes one.
 #[derive(Clone, Copy)]
 pub struct PageCoding {
@@ -59,7 +51,7 @@ pub struct PageCoding {
 #[derive(Clone, Copy)]
 pub enum MessageCoding {
     // As a text by itself, or why none is written so.
-    Text(Settled),
+    Text(Result<TextCoding, Refusal>),
     Lettered(PageCoding),
 }
 
@@ -72,7 +64,7 @@ pub fn write_message(
     reading: Reading,
     units: &[u16],
     out: &mut [u8],
-) -> MessageWritten
+) -> Result<MessageWritten, Refusal>
     ensures answer { result ≡ write_answers service reading units.now (length out.old) }
     ensures buffer { out.new ≡ write_leaves service reading units.now out.old }
 {
@@ -92,24 +84,24 @@ pub fn code_message(service: Service, reading: Reading) -> MessageCoding
 }
 
 // The same of a page behind letters, by its coding octet.
-fn page_coding(reading: Reading, written: OctetWritten) -> MessageCoding
+fn page_coding(reading: Reading, written: Result<u8, Refusal>) -> MessageCoding
     ensures { result ≡ lettered_by reading written }
 {
     let letters = reading.letters;
     match written {
-        OctetWritten::Done(octet) => MessageCoding::Lettered(PageCoding {
+        Ok(octet) => MessageCoding::Lettered(PageCoding {
             octet: octet,
             ucs2: reading.is_ucs2(),
             letters: letters,
         }),
-        OctetWritten::Refused(refusal) => MessageCoding::Text(Settled::Refused(refusal)),
+        Err(refusal) => MessageCoding::Text(Err(refusal)),
     }
 }
 
 // Writes one message for which all else is settled, and hands on why it is not.
 // Refuses, of a page behind letters, those of which one is not a to z (11); a unit that is not in the alphabet (6, the first), a text over the size
 // (5), a short buffer (7). Stores the octets at the front of out; a refusal stores nothing.
-pub fn write_coded(coding: MessageCoding, units: &[u16], out: &mut [u8]) -> MessageWritten
+pub fn write_coded(coding: MessageCoding, units: &[u16], out: &mut [u8]) -> Result<MessageWritten, Refusal>
     ensures answer { result ≡ coded_writes coding units.now (length out.old) }
     ensures buffer { out.new ≡ coded_leaves coding units.now out.old }
 {
@@ -120,7 +112,7 @@ pub fn write_coded(coding: MessageCoding, units: &[u16], out: &mut [u8]) -> Mess
 }
 
 // A page behind the letters of its language: 11, 6, 5, 7.
-fn write_page(coding: PageCoding, units: &[u16], out: &mut [u8]) -> MessageWritten
+fn write_page(coding: PageCoding, units: &[u16], out: &mut [u8]) -> Result<MessageWritten, Refusal>
     ensures answer { result ≡ page_writes coding.ucs2 coding.letters coding.octet units.now (length out.old) }
     ensures buffer { out.new ≡ page_write_leaves coding.ucs2 coding.letters units.now out.old }
 {
@@ -132,85 +124,85 @@ fn write_page(coding: PageCoding, units: &[u16], out: &mut [u8]) -> MessageWritt
 }
 
 // The answer of writing such a page, with the coding octet. It has no count.
-fn paged(code: u8, answer: Filled) -> MessageWritten
+fn paged(code: u8, answer: Result<usize, Refusal>) -> Result<MessageWritten, Refusal>
     ensures { result ≡ page_as code answer }
 {
     match answer {
-        Filled::Done(laid) => MessageWritten::Done {
+        Ok(laid) => Ok(MessageWritten {
             octets: laid,
             count: 0,
             coding: code,
-        },
-        Filled::Refused(refusal) => MessageWritten::Refused(refusal),
+        }),
+        Err(refusal) => Err(refusal),
     }
 }
 
 // What a reading settles of a text by itself before it is seen.
 // Refuses a reading that cannot be written under the service (8), compressed text (1), a coding that holds no text (2), a prefix or
 // header mark (3).
-pub fn settle(service: Service, reading: Reading) -> Settled
+pub fn settle(service: Service, reading: Reading) -> Result<TextCoding, Refusal>
     ensures answer { result ≡ settled_as service reading }
 {
     match reading.text_octet(service) {
-        OctetWritten::Done(octet) => held_settled(service, octet, reading.holds(service)),
-        OctetWritten::Refused(refusal) => Settled::Refused(refusal),
+        Ok(octet) => held_settled(service, octet, reading.holds(service)),
+        Err(refusal) => Err(refusal),
     }
 }
 
 // The same behind the coding octet.
-fn held_settled(service: Service, octet: u8, held: Held) -> Settled
+fn held_settled(service: Service, octet: u8, held: Result<Held, Refusal>) -> Result<TextCoding, Refusal>
     ensures { result ≡ held_settled service octet held }
 {
     match held {
-        Held::Septets => Settled::Text(TextCoding {
+        Ok(Held::Septets) => Ok(TextCoding {
             service: service,
             octet: octet,
             ucs2: false,
         }),
-        Held::Units => Settled::Text(TextCoding {
+        Ok(Held::Units) => Ok(TextCoding {
             service: service,
             octet: octet,
             ucs2: true,
         }),
-        Held::Refused(refusal) => Settled::Refused(refusal),
+        Err(refusal) => Err(refusal),
     }
 }
 
 // The same of plain text, 7-bit or UCS2, whose coding octet is known. Refuses an old page (8).
-pub fn settle_plain(service: Service, ucs2: bool) -> Settled
+pub fn settle_plain(service: Service, ucs2: bool) -> Result<TextCoding, Refusal>
     ensures answer { result ≡ settled_as service (plain_in ucs2) }
 {
     match coding::plain_octet(service, ucs2) {
-        OctetWritten::Done(octet) => Settled::Text(TextCoding {
+        Ok(octet) => Ok(TextCoding {
             service: service,
             octet: octet,
             ucs2: ucs2,
         }),
-        OctetWritten::Refused(refusal) => Settled::Refused(refusal),
+        Err(refusal) => Err(refusal),
     }
 }
 
 // Writes a text for which all else is settled, and hands on why it is not.
 // Refuses a unit that is not in the alphabet (6, the first), a text over the service's size (5), a short buffer (7).
 // Stores the octets at the front of out; a refusal stores nothing.
-pub fn write_settled(settled: Settled, units: &[u16], out: &mut [u8]) -> MessageWritten
+pub fn write_settled(settled: Result<TextCoding, Refusal>, units: &[u16], out: &mut [u8]) -> Result<MessageWritten, Refusal>
     ensures answer { result ≡ settled_writes settled units.now (length out.old) }
     ensures buffer { out.new ≡ settled_leaves settled units.now out.old }
 {
     match settled {
-        Settled::Text(coding) => write_text(coding, units, out),
-        Settled::Refused(refusal) => MessageWritten::Refused(refusal),
+        Ok(coding) => write_text(coding, units, out),
+        Err(refusal) => Err(refusal),
     }
 }
 
 // The same of what is settled.
-fn write_text(coding: TextCoding, units: &[u16], out: &mut [u8]) -> MessageWritten
+fn write_text(coding: TextCoding, units: &[u16], out: &mut [u8]) -> Result<MessageWritten, Refusal>
     ensures answer { result ≡ text_writes coding.service coding.ucs2 coding.octet units.now (length out.old) }
     ensures buffer { out.new ≡ text_write_leaves coding.service coding.ucs2 units.now out.old }
 {
     let service = coding.service;
     if service.is_old_page() {
-        return MessageWritten::Refused(Refusal::Unwritable);
+        return Err(Refusal::Unwritable);
     }
     if coding.ucs2 {
         return counted(
@@ -223,21 +215,21 @@ fn write_text(coding: TextCoding, units: &[u16], out: &mut [u8]) -> MessageWritt
 }
 
 // The answer of writing UCS2, counted by its octets, with the coding octet.
-fn counted(service: Service, octet: u8, answer: Filled) -> MessageWritten
+fn counted(service: Service, octet: u8, answer: Result<usize, Refusal>) -> Result<MessageWritten, Refusal>
     ensures { result ≡ units_as service octet answer }
 {
     match answer {
-        Filled::Done(stored) => MessageWritten::Done {
+        Ok(stored) => Ok(MessageWritten {
             octets: stored,
             count: closing::length_count(service, stored),
             coding: octet,
-        },
-        Filled::Refused(refusal) => MessageWritten::Refused(refusal),
+        }),
+        Err(refusal) => Err(refusal),
     }
 }
 
 // 7-bit text: its septets in an array of our own, and those packed.
-fn write_septets(service: Service, coding: u8, units: &[u16], out: &mut [u8]) -> MessageWritten
+fn write_septets(service: Service, coding: u8, units: &[u16], out: &mut [u8]) -> Result<MessageWritten, Refusal>
     requires { is_old_page service ≡ false }
     ensures answer { result ≡ text_writes service false coding units.now (length out.old) }
     ensures buffer { out.new ≡ text_write_leaves service false units.now out.old }
@@ -246,21 +238,21 @@ fn write_septets(service: Service, coding: u8, units: &[u16], out: &mut [u8]) ->
     let septets = gathered.septets;
     let answer = gathered.answer;
     match answer {
-        Filled::Done(n) => filed(coding, packing::pack_text(service, &septets, n, out)),
-        Filled::Refused(refusal) => MessageWritten::Refused(refusal),
+        Ok(n) => filed(coding, packing::pack_text(service, &septets, n, out)),
+        Err(refusal) => Err(refusal),
     }
 }
 
 // The answer of packing, with the coding octet.
-fn filed(coding: u8, packed: Packed) -> MessageWritten
+fn filed(coding: u8, packed: Result<Packed, Refusal>) -> Result<MessageWritten, Refusal>
     ensures { result ≡ packed_as coding packed }
 {
     match packed {
-        Packed::Done { octets, count } => MessageWritten::Done {
+        Ok(Packed { octets, count }) => Ok(MessageWritten {
             octets: octets,
             count: count,
             coding: coding,
-        },
-        Packed::Refused(refusal) => MessageWritten::Refused(refusal),
+        }),
+        Err(refusal) => Err(refusal),
     }
 }

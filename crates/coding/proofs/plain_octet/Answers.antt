@@ -6,24 +6,24 @@ use Rattle.octets.proofs.Tried.{short-tried, page-tried}
 use Rattle.coding.specs.Inner.{key_of, written_as}
 use Rattle.coding.specs.OctetWritten.{octet_writes}
 use Rattle.coding.specs.Readings.{plain_in}
-use Rattle.coding.specs.declared.OctetWritten.TheVariants.{Done}
 use Rattle.words.specs.declared.Service.{Service}
 use Rattle.words.specs.declared.Service.TheVariants.{ShortMessage, Broadcast, Ussd}
 use mathlib.Core.Bool.{Bool, true, false, cond}
 use mathlib.Core.Path.{◌≡◌, ap, sym, ◌∙◌}
 use Rattle.coding.proofs.plain_octet.Goals as goal
+use Rattle.std.specs.Prelude.{Ok}
 
-short-plain : (ucs2 : Bool) → Done (cond ucs2 0x08 0x00) ≡ octet_writes ShortMessage (plain_in ucs2)
+short-plain : (ucs2 : Bool) → Ok (cond ucs2 0x08 0x00) ≡ octet_writes ShortMessage (plain_in ucs2)
 unfolding key_of short_try general_try short_key general_key
 short-plain true = sym (write-short (plain_in true) ∙ ap written_as (short-tried 962))
 short-plain false = sym (write-short (plain_in false) ∙ ap written_as (short-tried 960))
 
-page-plain : (ucs2 : Bool) → Done (cond ucs2 0x48 0x0f) ≡ octet_writes Broadcast (plain_in ucs2)
+page-plain : (ucs2 : Bool) → Ok (cond ucs2 0x48 0x0f) ≡ octet_writes Broadcast (plain_in ucs2)
 unfolding key_of page_try headed_try general_try page_key language_key general_key
 page-plain true = sym (write-broadcast (plain_in true) ∙ ap written_as (page-tried 962))
 page-plain false = sym (write-broadcast (plain_in false) ∙ ap written_as (page-tried 960))
 
-ussd-plain : (ucs2 : Bool) → Done (cond ucs2 0x48 0x0f) ≡ octet_writes Ussd (plain_in ucs2)
+ussd-plain : (ucs2 : Bool) → Ok (cond ucs2 0x48 0x0f) ≡ octet_writes Ussd (plain_in ucs2)
 unfolding key_of page_try headed_try general_try page_key language_key general_key
 ussd-plain true = sym (write-ussd (plain_in true) ∙ ap written_as (page-tried 962))
 ussd-plain false = sym (write-ussd (plain_in false) ∙ ap written_as (page-tried 960))

@@ -2,10 +2,10 @@
 use Rattle.coding.proofs.Old.{alphabet-refused, alphabet-read}
 use Rattle.coding.proofs.Letterless.{read-letterless}
 use Rattle.coding.proofs.Octets.{key-valid, key_back}
-use Rattle.coding.specs.declared.OctetRead.TheVariants.{Done}
 use Rattle.coding.specs.OctetRead.{read_under}
 use mathlib.Core.Path.{ap, sym, ◌∙◌}
 use Rattle.coding.proofs.read_octet.Goals as goal
+use Rattle.std.specs.Prelude.{Ok}
 
 pub returns-then-no_alphabet : goal.returns-then-no_alphabet
 returns-then-no_alphabet c = record {
@@ -20,6 +20,6 @@ reading_of-requires c = let a = c.args in
 pub returns : goal.returns
 returns c = record {
   answer = let a = c.args in
-      ap Done (c.reading_of.ensures ∙ key_back (read_under a.service a.octet) _ (read-letterless a.service a.octet) c.octet_key.ensures)
+      ap Ok (c.reading_of.ensures ∙ key_back (read_under a.service a.octet) _ (read-letterless a.service a.octet) c.octet_key.ensures)
       ∙ sym (alphabet-read a.service a.octet (sym c.no_alphabet.ensures ∙ c.if-no_alphabet.false));
 }

@@ -4,4 +4,4 @@ use Rattle.coding.proofs.reading_of.Goals as goal
 
 pub returns : goal.returns
 unfolding reading_of
-returns c = simp (c.of.ensures.answer, c.notice_at-notice.ensures.answer)
+returns c = simp (c.of.ensures.answer, c.notice_at.ensures.answer)

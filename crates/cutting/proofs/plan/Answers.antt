@@ -14,19 +14,19 @@ returns-then-ucs2 c = record {
       c.planned.ensures ∙ plan-units a.units.now ∙ ap (λ (b : Bool). planned_as b a.units.now) (sym c.if-ucs2.true);
 }
 
-pub returns-in-Septets : goal.returns-in-Septets
-returns-in-Septets c = record {
+pub returns-in-Ok : goal.returns-in-Ok
+returns-in-Ok c = record {
   answer = let a = c.args in
-      let n : ℕ = c.in-Septets.n in
-      c.planned-in-Septets.ensures
+      let n : ℕ = c.in-Ok.n in
+      c.planned-in-Ok.ensures
       ∙ ap (λ (s : Surveyed). sized_plan false s.own n) c.survey-seen.ensures.answer
-      ∙ plan-counted a.units.now n (sym c.in-Septets.is ∙ ap (λ (s : Surveyed). s.measured) c.survey-seen.ensures.answer)
+      ∙ plan-counted a.units.now n (sym c.in-Ok.is ∙ ap (λ (s : Surveyed). s.measured) c.survey-seen.ensures.answer)
       ∙ ap (λ (b : Bool). planned_as b a.units.now) (sym c.if-ucs2.false);
 }
 
-pub returns-in-Stopped : goal.returns-in-Stopped
-returns-in-Stopped c = record {
+pub returns-in-Err : goal.returns-in-Err
+returns-in-Err c = record {
   answer = let a = c.args in
-      plan-stopped a.units.now _ (sym c.in-Stopped.is ∙ ap (λ (s : Surveyed). s.measured) c.survey-seen.ensures.answer)
+      plan-stopped a.units.now _ (sym c.in-Err.is ∙ ap (λ (s : Surveyed). s.measured) c.survey-seen.ensures.answer)
       ∙ ap (λ (b : Bool). planned_as b a.units.now) (sym c.if-ucs2.false);
 }

@@ -5,11 +5,11 @@ use mathlib.Core.List.{List}
 use Prim.Native.Nat.{ℕ, ◌+◌, ◌-◌}
 use native.Mathlib.Omega.{arith}
 use lib.ListN.{length, get_or, take, drop}
-use Rattle.headed.specs.declared.Concatenation.TheVariants.{Absent}
 use Rattle.headed.specs.Header.{elements_of, header_body}
 use Rattle.headed.specs.Inner.{body_reads}
 use Rattle.headed.proofs.Steps.{header-short, header-body}
 use Rattle.header.proofs.read_header.Goals as goal
+use Rattle.std.specs.Prelude.{None}
 
 pub returns-then-octets-eq0 : goal.returns-then-octets-eq0
 returns-then-octets-eq0 c = record { answer = let o : List ℕ = c.args.octets.now in sym (header-short o (omega (arith, c.if-octets-eq0.true))) }
@@ -24,6 +24,6 @@ returns c = record {
       let size : get_or o 0 0 + 1 - 1 ≡ get_or o 0 0 = omega arith in
       let body : take (get_or o 0 0 + 1 - 1) (drop 1 o) ≡ header_body o = ap (λ (n : ℕ). take n (drop 1 o)) size in
       c.read_elements.ensures
-      ∙ ap (λ (l : List ℕ). body_reads (length l + 1) Absent (elements_of l)) body
+      ∙ ap (λ (l : List ℕ). body_reads (length l + 1) None (elements_of l)) body
       ∙ sym (header-body o (omega (arith, c.if-octets-end.false)));
 }

@@ -17,7 +17,7 @@ returns-in-Units c = let a = c.args in
     let s = held-joins a.head a.reading a.blocks.now a.out.now true (sym c.in-Units.is ∙ c.holds.ensures.answer) in
     record { answer = c.joined-in-Units.ensures ∙ ap (joined_as a.head a.reading) c.join_text-in-Units.ensures.answer ∙ s.0; buffer = c.join_text-in-Units.ensures.buffer ∙ s.1 }
 
-pub returns-in-Refused : goal.returns-in-Refused
-returns-in-Refused c = let a = c.args in
+pub returns-in-Err : goal.returns-in-Err
+returns-in-Err c = let a = c.args in
     answered
-    (held_none a.head a.reading a.blocks.now a.out.now _ (sym c.in-Refused.is ∙ c.holds.ensures.answer))
+    (held_none a.head a.reading a.blocks.now a.out.now _ (sym c.in-Err.is ∙ c.holds.ensures.answer))

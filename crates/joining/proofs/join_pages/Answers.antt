@@ -26,14 +26,14 @@ join_held-requires c = let o : List ℕ = c.args.blocks.now in
     let long : 88 ≤ length o = omega (arith, c.if-blocks-ne0.false, c.if-blocks-eq0.false) in
     (long, c.read_header-head.ensures.answer ∙ ap header_of c.block_at.ensures.answer ∙ first-header o long)
 
-pub returns-in-Done : goal.returns-in-Done
-returns-in-Done c = let a = c.args in
+pub returns-in-Ok : goal.returns-in-Ok
+returns-in-Ok c = let a = c.args in
     let long : 88 ≤ length a.blocks.now = omega (arith, c.if-blocks-ne0.false, c.if-blocks-eq0.false) in
     let first : c.read_header-head.result ≡ header_at a.blocks.now 0 = c.read_header-head.ensures.answer ∙ ap header_of c.block_at.ensures.answer ∙ first-header _ long in
     let s =
     join-read a.blocks.now a.out.now c.read_header-head.result _ c.if-blocks-ne0.false c.if-blocks-eq0.false first
-    (sym c.in-Done.is ∙ c.read_octet.ensures.answer) in
+    (sym c.in-Ok.is ∙ c.read_octet.ensures.answer) in
     record { answer = c.join_held.ensures.answer ∙ s.0; buffer = c.join_held.ensures.buffer ∙ s.1 }
 
-pub returns-in-Refused : goal.returns-in-Refused
-returns-in-Refused c = answered (absurd (octet-read-here _ _ (sym c.in-Refused.is ∙ c.read_octet.ensures.answer)))
+pub returns-in-Err : goal.returns-in-Err
+returns-in-Err c = answered (absurd (octet-read-here _ _ (sym c.in-Err.is ∙ c.read_octet.ensures.answer)))

@@ -7,13 +7,13 @@ use Rattle.names.proofs.any_reading.Goals as goal
 pub with-requires : goal.with-requires
 with-requires c = fields-named _ (sym c.fields.ensures ∙ c.if-fields.true)
 
-pub returns-in-Named : goal.returns-in-Named
+pub returns-in-Some : goal.returns-in-Some
 unfolding named_reading
-returns-in-Named c = simp (c.with.ensures, sym c.fields.ensures ∙ c.if-fields.true, sym c.notice.ensures ∙ c.in-Named.is)
+returns-in-Some c = simp (c.with.ensures, sym c.fields.ensures ∙ c.if-fields.true, sym c.notice.ensures ∙ c.in-Some.is)
 
-pub returns-in-Unnamed : goal.returns-in-Unnamed
+pub returns-in-None : goal.returns-in-None
 unfolding named_reading
-returns-in-Unnamed c = simp (sym c.fields.ensures ∙ c.if-fields.true, sym c.notice.ensures ∙ c.in-Unnamed.is)
+returns-in-None c = simp (sym c.fields.ensures ∙ c.if-fields.true, sym c.notice.ensures ∙ c.in-None.is)
 
 pub returns-else-fields : goal.returns-else-fields
 unfolding named_reading

@@ -9,13 +9,11 @@ use lib.Dec.{leb}
 use lib.ListN.{length, take}
 use lib.Seq.{take_all}
 use Rattle.words.specs.declared.Refusal.TheVariants.{NoSeptet}
-use Rattle.words.specs.declared.Filled.{Filled}
 use Rattle.words.specs.declared.Service.{Service}
 use Rattle.words.specs.Sizes.{most_septets, is_old_page}
 use Rattle.lists.specs.Lists.{first_place}
 use Rattle.words.specs.Judging.{verdict}
 use Rattle.stream.specs.Stream.{packed}
-use Rattle.stream.specs.declared.Packed.TheVariants.{Refused}
 use Rattle.stream.specs.Digits.{low_of}
 use Rattle.stream.specs.UssdPacking.{with_cr}
 use Rattle.stream.specs.Pages.{page}
@@ -29,6 +27,8 @@ use Rattle.stream.proofs.Pages.{page-below}
 use Rattle.stream.proofs.Sent.{most-182, page-most, page-octets, closed-octets}
 use Rattle.words.proofs.Clauses.{answered}
 use Rattle.packing.proofs.pack.Goals as goal
+use Rattle.std.specs.Prelude.{Result, Err}
+use Rattle.words.specs.declared.Refusal.{Refusal}
 
 pub returns-then-is_old_page : goal.returns-then-is_old_page
 unfolding pack_rules pack_answers pack_leaves verdict
@@ -44,7 +44,7 @@ record Passed (service : Service) (s : List ℕ) : Type 0 where
   pub most : length s ≤ most_septets service
 
 -- what is stored is the service's octets
-done : (service : Service) (s out : List ℕ) {stored : Filled} {left xs : List ℕ} → Passed service s → xs ≡ octets_of service s → Gives xs out stored left
+done : (service : Service) (s out : List ℕ) {stored : Result ℕ Refusal} {left xs : List ℕ} → Passed service s → xs ≡ octets_of service s → Gives xs out stored left
     → (counted_as stored (count_of service s) ≡ pack_answers service s (length out)) × (left ≡ pack_leaves service s out)
 done service s out {stored} {left} p same gives = pack-passed service s out p.new p.low p.most (subst (λ (l : List ℕ). Gives l out stored left) same gives)
 
@@ -54,7 +54,7 @@ returns-then-high-n c =
     let s : List ℕ = c.args.septets.now in
     let new : is_old_page c.args.service ≡ false = cc in
     let high : first_place (leb 128) s < length s = omega (arith, c.first_wide-high.ensures.answer) in
-    answered (simp (new, lt-ltb _ _ high) (ap (λ (k : ℕ). Refused (NoSeptet k)) c.first_wide-high.ensures.answer, refl))
+    answered (simp (new, lt-ltb _ _ high) (ap (λ (k : ℕ). Err (NoSeptet k)) c.first_wide-high.ensures.answer, refl))
 
 pub returns-then-most_septets-n : goal.returns-then-most_septets-n
 unfolding pack_rules pack_answers pack_leaves verdict

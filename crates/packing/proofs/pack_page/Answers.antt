@@ -6,7 +6,6 @@ use native.Mathlib.Omega.{arith}
 use borrow.Author.Tests.{lt-ltb}
 use lib.Dec.{leb}
 use lib.ListN.{length}
-use Rattle.words.specs.declared.Filled.TheVariants.{Refused}
 use Rattle.words.specs.declared.Refusal.TheVariants.{NoSeptet}
 use Rattle.lists.specs.Lists.{first_place}
 use Rattle.words.specs.Judging.{verdict}
@@ -17,13 +16,14 @@ use Rattle.stream.proofs.Calls.{none-high, page-passed}
 use Rattle.stream.proofs.LowBits.{low_same}
 use Rattle.words.proofs.Clauses.{answered}
 use Rattle.packing.proofs.pack_page.Goals as goal
+use Rattle.std.specs.Prelude.{Err}
 
 pub returns-then-high-lt93 : goal.returns-then-high-lt93
 unfolding page_rules page_answers page_leaves verdict
 returns-then-high-lt93 c = let a = c.args in
     let high : first_place (leb 128) a.page < length a.page = omega (arith, c.first_wide-high.ensures.answer, c.if-high-lt93.true) in
     answered
-    (simp (lt-ltb _ _ high) (ap (λ (k : ℕ). Refused (NoSeptet k)) c.first_wide-high.ensures.answer, refl))
+    (simp (lt-ltb _ _ high) (ap (λ (k : ℕ). Err (NoSeptet k)) c.first_wide-high.ensures.answer, refl))
 
 pub returns : goal.returns
 returns c = let a = c.args in

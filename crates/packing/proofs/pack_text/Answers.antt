@@ -8,7 +8,6 @@ use borrow.Author.Tests.{lt-ltb}
 use lib.ListN.{length, take, length-take}
 use lib.Seq.{take_all}
 use native.Mathlib.Nat.{min-le_left}
-use Rattle.words.specs.declared.Filled.{Filled}
 use Rattle.words.specs.declared.Service.{Service}
 use Rattle.words.specs.Sizes.{most_septets, is_old_page}
 use Rattle.words.specs.Judging.{verdict}
@@ -26,6 +25,8 @@ use Rattle.stream.proofs.Sent.{most-182, page-most, page-octets, closed-octets}
 use borrow.Author.Rules.{rules}
 use Rattle.words.proofs.Clauses.{answered}
 use Rattle.packing.proofs.pack_text.Goals as goal
+use Rattle.std.specs.Prelude.{Result}
+use Rattle.words.specs.declared.Refusal.{Refusal}
 
 pub returns-then-is_old_page : goal.returns-then-is_old_page
 unfolding array_rules array_answers array_leaves verdict
@@ -48,7 +49,7 @@ record Passed (service : Service) (n : ℕ) : Type 0 where
   pub most : n ≤ most_septets service
 
 -- past them, what is stored is the service's octets
-done : (service : Service) (s : List ℕ) (n : ℕ) (out : List ℕ) {stored : Filled} {left xs : List ℕ} → Passed service n → xs ≡ octets_of service (take n (low_of 7 s)) → Gives xs out stored left
+done : (service : Service) (s : List ℕ) (n : ℕ) (out : List ℕ) {stored : Result ℕ Refusal} {left xs : List ℕ} → Passed service n → xs ≡ octets_of service (take n (low_of 7 s)) → Gives xs out stored left
     → (counted_as stored (travels service n) ≡ array_answers service s n (length out)) × (left ≡ array_leaves service s n out)
 done service s n out {stored} {left} p same gives = array-passed service s n out p.new p.most (subst (λ (l : List ℕ). Gives l out stored left) same gives)
 

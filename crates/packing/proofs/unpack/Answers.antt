@@ -6,7 +6,6 @@ use mathlib.Core.List.{List}
 use native.Mathlib.Omega.{arith}
 use lib.ListN.{length, take, replicate, length-replicate}
 use lib.Seq.{length-take-le}
-use Rattle.words.specs.declared.Filled.TheVariants.{Done, Refused}
 use Rattle.words.specs.declared.Service.{Service}
 use Rattle.words.specs.Judging.{verdict}
 use Rattle.stream.specs.SeptetCalls.{septets_fit, septets_of, unpack_rules, unpack_answers, unpack_leaves}
@@ -16,6 +15,7 @@ use Rattle.stream.proofs.Arrays.{kept-count}
 use Rattle.stream.proofs.Calls.{unpack-passed, all_most, kept-most, array-done, array-refused, array-length, array-all, array-front}
 use Rattle.words.proofs.Clauses.{answered}
 use Rattle.packing.proofs.unpack.Goals as goal
+use Rattle.std.specs.Prelude.{Ok, Err}
 
 -- the array before
 abbrev zeros : List ℕ
@@ -32,7 +32,7 @@ record Held (service : Service) (o : List ℕ) (count n : ℕ) (array : List ℕ
   pub long : length array ≡ 184
   pub room : n ≤ length array
 
-held : (service : Service) (o : List ℕ) (count : ℕ) {n : ℕ} {array : List ℕ} → Done n ≡ all_answers service o count (length zeros) → array ≡ all_leaves service o count zeros → Held service o count n array
+held : (service : Service) (o : List ℕ) (count : ℕ) {n : ℕ} {array : List ℕ} → Ok n ≡ all_answers service o count (length zeros) → array ≡ all_leaves service o count zeros → Held service o count n array
 held service o count {n} {array} e left =
     let d = array-done service o count zeros zeros-length n e in
     let long : length array ≡ 184 = array-length service o count zeros zeros-length array d.0 left in
@@ -44,24 +44,24 @@ kept service o count {n} {array} h =
     ap (kept_count service) (ap (λ (k : ℕ). take k array) h.size ∙ array-all service o count zeros zeros-length array h.fit h.laid-over) ∙ kept-count service count o
 
 pub slice_bounds-septets-end : goal.slice_bounds-septets-end
-slice_bounds-septets-end c = let a = c.args in (held a.service a.octets.now a.count (sym c.in-Done.is ∙ c.unpack_whole.ensures.answer) c.unpack_whole.ensures.buffer).room
+slice_bounds-septets-end c = let a = c.args in (held a.service a.octets.now a.count (sym c.in-Ok.is ∙ c.unpack_whole.ensures.answer) c.unpack_whole.ensures.buffer).room
 
 pub slice_bounds-text_length-end : goal.slice_bounds-text_length-end
 slice_bounds-text_length-end c =
     let a = c.args in
-    sym (length-take-le _ _ (held a.service a.octets.now a.count (sym c.in-Done.is ∙ c.unpack_whole.ensures.answer) c.unpack_whole.ensures.buffer).room)
+    sym (length-take-le _ _ (held a.service a.octets.now a.count (sym c.in-Ok.is ∙ c.unpack_whole.ensures.answer) c.unpack_whole.ensures.buffer).room)
 
 pub store-requires : goal.store-requires
 store-requires c =
     let a = c.args in
-    let h = held a.service a.octets.now a.count (sym c.in-Done.is ∙ c.unpack_whole.ensures.answer) c.unpack_whole.ensures.buffer in
+    let h = held a.service a.octets.now a.count (sym c.in-Ok.is ∙ c.unpack_whole.ensures.answer) c.unpack_whole.ensures.buffer in
     (omega (arith, c.text_length-n.ensures.answer, kept a.service a.octets.now a.count h, kept-most a.service a.octets.now a.count, all_most a.service a.octets.now a.count h.fit), h.long)
 
-pub returns-in-Done : goal.returns-in-Done
-returns-in-Done c =
+pub returns-in-Ok : goal.returns-in-Ok
+returns-in-Ok c =
     let a = c.args in
     let array : List ℕ = c.unpack_whole.new.out in
-    let h = held a.service a.octets.now a.count (sym c.in-Done.is ∙ c.unpack_whole.ensures.answer) c.unpack_whole.ensures.buffer in
+    let h = held a.service a.octets.now a.count (sym c.in-Ok.is ∙ c.unpack_whole.ensures.answer) c.unpack_whole.ensures.buffer in
     let front : take c.text_length-n.result array ≡ septets_of a.service a.count a.octets.now =
     ap (λ (n : ℕ). take n array) (c.text_length-n.ensures.answer ∙ kept a.service a.octets.now a.count h)
     ∙ array-front a.service a.octets.now a.count zeros zeros-length array h.fit h.laid-over in
@@ -69,9 +69,9 @@ returns-in-Done c =
     (unpack-passed a.service a.octets.now a.out.now a.count h.fit
     (subst (λ (s : List ℕ). Gives s a.out.now c.store.result c.store.new.out) front (c.store.ensures.answer, c.store.ensures.buffer)))
 
-pub returns-in-Refused : goal.returns-in-Refused
+pub returns-in-Err : goal.returns-in-Err
 unfolding unpack_rules unpack_answers unpack_leaves verdict
-returns-in-Refused c =
+returns-in-Err c =
     let a = c.args in
-    let f = array-refused a.service a.octets.now a.count zeros zeros-length c.in-Refused.refusal (sym c.in-Refused.is ∙ c.unpack_whole.ensures.answer) in
-    answered (simp f.0 (ap Refused f.1, refl))
+    let f = array-refused a.service a.octets.now a.count zeros zeros-length c.in-Err.refusal (sym c.in-Err.is ∙ c.unpack_whole.ensures.answer) in
+    answered (simp f.0 (ap Err f.1, refl))

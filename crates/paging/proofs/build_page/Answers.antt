@@ -3,14 +3,14 @@ use mathlib.Core.Path.{sym, ◌∙◌}
 use Rattle.paging.proofs.Settled.{builds-text, builds-refused}
 use Rattle.paging.proofs.build_page.Goals as goal
 
-pub returns-in-Text : goal.returns-in-Text
-returns-in-Text c = record {
+pub returns-in-Ok : goal.returns-in-Ok
+returns-in-Ok c = record {
   answer = let a = c.args in
-      c.build_text.ensures ∙ builds-text a.reading a.units.now _ (sym c.in-Text.is ∙ c.settle.ensures.answer) a.sequence a.identifier a.number;
+      c.build_text.ensures ∙ builds-text a.reading a.units.now _ (sym c.in-Ok.is ∙ c.settle.ensures.answer) a.sequence a.identifier a.number;
 }
 
-pub returns-in-Refused : goal.returns-in-Refused
-returns-in-Refused c = record {
+pub returns-in-Err : goal.returns-in-Err
+returns-in-Err c = record {
   answer = let a = c.args in
-      c.no_page.ensures ∙ builds-refused a.reading a.units.now _ (sym c.in-Refused.is ∙ c.settle.ensures.answer) a.sequence a.identifier a.number;
+      c.no_page.ensures ∙ builds-refused a.reading a.units.now _ (sym c.in-Err.is ∙ c.settle.ensures.answer) a.sequence a.identifier a.number;
 }

@@ -5,15 +5,15 @@ use Rattle.pages.specs.Inner.{sized_as}
 use Rattle.paging.proofs.Settled.{counts-text, counts-refused}
 use Rattle.paging.proofs.count_pages.Goals as goal
 
-pub returns-in-Text : goal.returns-in-Text
-returns-in-Text c = record {
+pub returns-in-Ok : goal.returns-in-Ok
+returns-in-Ok c = record {
   answer = let a = c.args in
-      let w = sym c.in-Text.is ∙ c.settle.ensures.answer in
+      let w = sym c.in-Ok.is ∙ c.settle.ensures.answer in
       c.text_pages.ensures ∙ ap (λ (b : Bool). sized_as b a.units.now) c.ucs2.ensures.answer ∙ counts-text a.reading a.units.now _ w;
 }
 
-pub returns-in-Refused : goal.returns-in-Refused
-returns-in-Refused c = record {
+pub returns-in-Err : goal.returns-in-Err
+returns-in-Err c = record {
   answer = let a = c.args in
-      counts-refused a.reading a.units.now _ (sym c.in-Refused.is ∙ c.settle.ensures.answer);
+      counts-refused a.reading a.units.now _ (sym c.in-Err.is ∙ c.settle.ensures.answer);
 }

@@ -4,12 +4,12 @@ use Rattle.paging.proofs.Settled.{writes-text, writes-refused}
 use Rattle.words.proofs.Clauses.{answered}
 use Rattle.paging.proofs.write_pages.Goals as goal
 
-pub returns-in-Text : goal.returns-in-Text
-returns-in-Text c = let a = c.args in
-    let w = writes-text a.reading a.units.now _ (sym c.in-Text.is ∙ c.settle.ensures.answer) a.sequence a.identifier a.out.now in
+pub returns-in-Ok : goal.returns-in-Ok
+returns-in-Ok c = let a = c.args in
+    let w = writes-text a.reading a.units.now _ (sym c.in-Ok.is ∙ c.settle.ensures.answer) a.sequence a.identifier a.out.now in
     record { answer = c.write_text.ensures.answer ∙ w.0; buffer = c.write_text.ensures.buffer ∙ w.1 }
 
-pub returns-in-Refused : goal.returns-in-Refused
-returns-in-Refused c = let a = c.args in
+pub returns-in-Err : goal.returns-in-Err
+returns-in-Err c = let a = c.args in
     answered
-    (writes-refused a.reading a.units.now _ (sym c.in-Refused.is ∙ c.settle.ensures.answer) a.sequence a.identifier a.out.now)
+    (writes-refused a.reading a.units.now _ (sym c.in-Err.is ∙ c.settle.ensures.answer) a.sequence a.identifier a.out.now)

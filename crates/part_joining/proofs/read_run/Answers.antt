@@ -4,8 +4,8 @@ use Rattle.parted.proofs.JoinSteps.{run-read, run-unrefused}
 use Rattle.words.proofs.Clauses.{answered}
 use Rattle.part_joining.proofs.read_run.Goals as goal
 
-pub returns-in-Done : goal.returns-in-Done
-returns-in-Done c = answered (run-read c.args.run.now c.args.out.now c.requires.0 c.requires.1 _ _ (sym c.in-Done.is ∙ c.septets_to_text.ensures.answer) c.septets_to_text.ensures.buffer)
+pub returns-in-Ok : goal.returns-in-Ok
+returns-in-Ok c = answered (run-read c.args.run.now c.args.out.now c.requires.0 c.requires.1 _ _ (sym c.in-Ok.is ∙ c.septets_to_text.ensures.answer) c.septets_to_text.ensures.buffer)
 
-pub returns-in-Refused : goal.returns-in-Refused
-returns-in-Refused c = answered (absurd (run-unrefused c.args.run.now c.args.out.now c.requires.0 c.requires.1 _ (sym c.in-Refused.is ∙ c.septets_to_text.ensures.answer)))
+pub returns-in-Err : goal.returns-in-Err
+returns-in-Err c = answered (absurd (run-unrefused c.args.run.now c.args.out.now c.requires.0 c.requires.1 _ (sym c.in-Err.is ∙ c.septets_to_text.ensures.answer)))

@@ -5,8 +5,8 @@ use Rattle.headed.proofs.Steps.{header-told, header-refusal}
 use Rattle.parted.specs.InnerJoined.{given_numbers}
 use Rattle.part_order.proofs.numbers_in.Goals as goal
 
-pub returns-in-Done : goal.returns-in-Done
-returns-in-Done c = c.given.ensures ∙ ap given_numbers (header-told c.args.part.now _ _ (sym c.in-Done.is ∙ c.read_header.ensures.answer)).2
+pub returns-in-Ok : goal.returns-in-Ok
+returns-in-Ok c = c.given.ensures ∙ ap given_numbers (header-told c.args.part.now _ _ (sym c.in-Ok.is ∙ c.read_header.ensures.answer)).2
 
-pub returns-in-Refused : goal.returns-in-Refused
-returns-in-Refused c = absurd (true≢false (sym c.requires ∙ (header-refusal c.args.part.now _ (sym c.in-Refused.is ∙ c.read_header.ensures.answer)).0))
+pub returns-in-Err : goal.returns-in-Err
+returns-in-Err c = absurd (true≢false (sym c.requires ∙ (header-refusal c.args.part.now _ (sym c.in-Err.is ∙ c.read_header.ensures.answer)).0))

@@ -16,11 +16,11 @@ judge_heads-requires c = not-true _ (sym c.counts_fit.ensures ∙ c.if-not-count
 
 pub place_or_clear-requires : goal.place_or_clear-requires
 place_or_clear-requires c = let a = c.args in
-    let heads = heads-told a.ucs2 a.counts.now a.octets.now (sym c.in-Right.is ∙ c.judge_heads.ensures) in
+    let heads = heads-told a.ucs2 a.counts.now a.octets.now (sym c.in-Ok.is ∙ c.judge_heads.ensures) in
     record { octets_value = (not-true _ (sym c.counts_fit.ensures ∙ c.if-not-counts_fit.false), heads.0, heads.1); places_value = (refl, refl) }
 
-pub returns-in-Refused : goal.returns-in-Refused
-returns-in-Refused c = let a = c.args in
-    let is = c.refused-in-Refused.ensures ∙ sym (order-headless a.ucs2 a.counts.now a.octets.now _ (not-true _ (sym c.counts_fit.ensures ∙ c.if-not-counts_fit.false)) (sym c.in-Refused.is ∙ c.judge_heads.ensures)) in
-    let left = left-refused a.ucs2 a.counts.now a.octets.now c.refused-in-Refused.result is _ (ap (λ (p : PartOrder). p.judged) c.refused-in-Refused.ensures) in
+pub returns-in-Err : goal.returns-in-Err
+returns-in-Err c = let a = c.args in
+    let is = c.refused-in-Err.ensures ∙ sym (order-headless a.ucs2 a.counts.now a.octets.now _ (not-true _ (sym c.counts_fit.ensures ∙ c.if-not-counts_fit.false)) (sym c.in-Err.is ∙ c.judge_heads.ensures)) in
+    let left = left-refused a.ucs2 a.counts.now a.octets.now c.refused-in-Err.result is _ (ap (λ (p : PartOrder). p.judged) c.refused-in-Err.ensures) in
     record { answer = is; numbers = left.0; beginnings = left.1 }

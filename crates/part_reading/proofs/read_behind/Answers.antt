@@ -6,21 +6,20 @@ use Prim.Native.Nat.{ℕ, ◌+◌, ◌≤◌}
 use native.Mathlib.Numerals.{add-one}
 use native.Mathlib.Omega.{arith}
 use lib.ListN.{length, get_or}
-use Rattle.headed.specs.declared.Concatenation.{Concatenation}
-use Rattle.headed.specs.declared.Concatenation.TheVariants.{Absent}
-use Rattle.headed.specs.declared.HeaderRead.TheVariants.{Done}
 use Rattle.headed.specs.Header.{right_header, header_reads, header_size, header_numbers, septets_over}
 use Rattle.headed.proofs.Steps.{header-told, header-refusal}
-use Rattle.parted.specs.declared.TextRead.TheVariants as text
 use Rattle.parted.specs.Read.{count_fits}
 use Rattle.parted.specs.Inner.{tail_reads, tail_leaves, with_numbers}
 use Rattle.parted.proofs.ReadSteps.{behind-misfit, behind-alone, behind-headless, behind-headed, head-none, head-right, not-past}
 use borrow.Author.Rules.{rules}
 use Rattle.words.proofs.Clauses.{answered}
 use Rattle.part_reading.proofs.read_behind.Goals as goal
+use Rattle.std.specs.Prelude.{Option, Err, None}
+use Rattle.headed.specs.declared.Numbers.{Numbers}
+use Rattle.headed.specs.Successes.{ok_header_read}
 
 -- what the header's answer tells
-told : (o : List ℕ) {size : ℕ} {numbers : Concatenation} → Done size numbers ≡ header_reads o
+told : (o : List ℕ) {size : ℕ} {numbers : Option Numbers} → ok_header_read size numbers ≡ header_reads o
     → (right_header o ≡ true) × (size ≡ header_size o) × (numbers ≡ header_numbers o) × (header_size o ≤ length o)
 told o e = header-told o _ _ e
 
@@ -43,11 +42,11 @@ returns-then-not-marked c =
     let a = c.args in
     let fit : count_fits a.ucs2 (length a.octets.now) a.count ≡ true = cc in
     let s = behind-alone a.ucs2 a.marked a.count a.octets.now a.out.now fit (cc) in
-    record { answer = c.numbered.ensures ∙ ap (with_numbers Absent) c.read_tail.ensures.answer ∙ s.0; buffer = c.read_tail.ensures.buffer ∙ s.1 }
+    record { answer = c.numbered.ensures ∙ ap (with_numbers None) c.read_tail.ensures.answer ∙ s.0; buffer = c.read_tail.ensures.buffer ∙ s.1 }
 
 pub bounds-octets-0 : goal.bounds-octets-0
 bounds-octets-0 c =
-    let known : header_size c.args.octets.now ≤ length c.args.octets.now = (told c.args.octets.now (sym c.in-Done.is ∙ c.read_header.ensures.answer)).3 in
+    let known : header_size c.args.octets.now ≤ length c.args.octets.now = (told c.args.octets.now (sym c.in-Ok.is ∙ c.read_header.ensures.answer)).3 in
     search rules
 
 pub returns-then-past_count : goal.returns-then-past_count
@@ -55,16 +54,16 @@ returns-then-past_count c =
     let a = c.args in
     let o : List ℕ = a.octets.now in
     let fit : count_fits a.ucs2 (length o) a.count ≡ true = cc in
-    let d = told o (sym c.in-Done.is ∙ c.read_header.ensures.answer) in
+    let d = told o (sym c.in-Ok.is ∙ c.read_header.ensures.answer) in
     answered
     (behind-headless a.ucs2 a.marked a.count o a.out.now fit (cc)
     (head-right a.ucs2 a.count o d.0 _ (over o c.septets_over-over.ensures.answer) ∙ sym c.past_count.ensures ∙ c.if-past_count.true))
 
-pub read_tail-requires-in-Done : goal.read_tail-requires-in-Done
-read_tail-requires-in-Done c =
+pub read_tail-requires-in-Ok : goal.read_tail-requires-in-Ok
+read_tail-requires-in-Ok c =
     let a = c.args in
     let o : List ℕ = a.octets.now in
-    let d = told o (sym c.in-Done.is ∙ c.read_header.ensures.answer) in
+    let d = told o (sym c.in-Ok.is ∙ c.read_header.ensures.answer) in
     record {
       count_value = ((cc), omega (arith, d.1, d.3), over o c.septets_over-over.ensures.answer ∙ ap septets_over (sym d.1));
       over_le_count = not-past a.ucs2 a.count o _ (sym c.past_count.ensures ∙ c.if-past_count.false);
@@ -75,23 +74,23 @@ returns-else-past_count c =
     let a = c.args in
     let o : List ℕ = a.octets.now in
     let fit : count_fits a.ucs2 (length o) a.count ≡ true = cc in
-    let d = told o (sym c.in-Done.is ∙ c.read_header.ensures.answer) in
+    let d = told o (sym c.in-Ok.is ∙ c.read_header.ensures.answer) in
     let s =
     behind-headed a.ucs2 a.marked a.count o a.out.now fit (cc)
     (head-right a.ucs2 a.count o d.0 _ (over o c.septets_over-over.ensures.answer) ∙ sym c.past_count.ensures ∙ c.if-past_count.false) in
     record {
       answer =
-          c.numbered-in-Done.ensures
-          ∙ ap (with_numbers c.in-Done.concatenation) c.read_tail-in-Done.ensures.answer
-          ∙ ap₂ (λ (n : ℕ) (x : Concatenation). with_numbers x (tail_reads a.ucs2 n a.count o (length a.out.now))) d.1 d.2
+          c.numbered-in-Ok.ensures
+          ∙ ap (with_numbers c.in-Ok.concatenation) c.read_tail-in-Ok.ensures.answer
+          ∙ ap₂ (λ (n : ℕ) (x : Option Numbers). with_numbers x (tail_reads a.ucs2 n a.count o (length a.out.now))) d.1 d.2
           ∙ s.0;
-      buffer = c.read_tail-in-Done.ensures.buffer ∙ ap (λ (n : ℕ). tail_leaves a.ucs2 n a.count o a.out.now) d.1 ∙ s.1;
+      buffer = c.read_tail-in-Ok.ensures.buffer ∙ ap (λ (n : ℕ). tail_leaves a.ucs2 n a.count o a.out.now) d.1 ∙ s.1;
     }
 
-pub returns-in-Refused : goal.returns-in-Refused
-returns-in-Refused c =
+pub returns-in-Err : goal.returns-in-Err
+returns-in-Err c =
     let a = c.args in
     let fit : count_fits a.ucs2 (length a.octets.now) a.count ≡ true = cc in
-    let q = header-refusal a.octets.now _ (sym c.in-Refused.is ∙ c.read_header.ensures.answer) in
+    let q = header-refusal a.octets.now _ (sym c.in-Err.is ∙ c.read_header.ensures.answer) in
     let s = behind-headless a.ucs2 a.marked a.count a.octets.now a.out.now fit (cc) (head-none a.ucs2 a.count a.octets.now q.0) in
-    record { answer = ap text.Refused q.1 ∙ s.0; buffer = s.1 }
+    record { answer = ap Err q.1 ∙ s.0; buffer = s.1 }

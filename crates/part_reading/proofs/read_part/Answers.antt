@@ -4,10 +4,10 @@ use Rattle.parted.proofs.ReadSteps.{octet-reads, read-octet}
 use Rattle.words.proofs.Clauses.{answered}
 use Rattle.part_reading.proofs.read_part.Goals as goal
 
-pub returns-in-Done : goal.returns-in-Done
-returns-in-Done c = let a = c.args in
-    let s = read-octet a.marked a.count a.octets.now a.out.now a.coding _ (sym c.in-Done.is ∙ c.read_octet.ensures.answer) in
+pub returns-in-Ok : goal.returns-in-Ok
+returns-in-Ok c = let a = c.args in
+    let s = read-octet a.marked a.count a.octets.now a.out.now a.coding _ (sym c.in-Ok.is ∙ c.read_octet.ensures.answer) in
     record { answer = c.read_held.ensures.answer ∙ s.0; buffer = c.read_held.ensures.buffer ∙ s.1 }
 
-pub returns-in-Refused : goal.returns-in-Refused
-returns-in-Refused c = answered (absurd (octet-reads c.args.coding _ (sym c.in-Refused.is ∙ c.read_octet.ensures.answer)))
+pub returns-in-Err : goal.returns-in-Err
+returns-in-Err c = answered (absurd (octet-reads c.args.coding _ (sym c.in-Err.is ∙ c.read_octet.ensures.answer)))

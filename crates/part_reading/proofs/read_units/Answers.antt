@@ -5,10 +5,10 @@ use native.Mathlib.Omega.{arith}
 use lib.ListN.{length, take, drop, length-drop}
 use lib.Seq.{take_all}
 use Prim.Native.Nat.{ℕ, ◌-◌}
-use Rattle.words.specs.declared.Filled.TheVariants.{Done}
 use Rattle.parted.proofs.ReadSteps.{units-odd, units-short, units-tail}
 use Rattle.words.proofs.Clauses.{answered}
 use Rattle.part_reading.proofs.read_units.Goals as goal
+use Rattle.std.specs.Prelude.{Ok}
 
 pub returns-then-behind-eq1 : goal.returns-then-behind-eq1
 returns-then-behind-eq1 c = let a = c.args in
@@ -25,4 +25,4 @@ returns c = let a = c.args in
     let o : List ℕ = a.octets.now in
     let rest : take (length o - a.size) (drop a.size o) ≡ drop a.size o = take_all (length o - a.size) (drop a.size o) (omega (arith, length-drop a.size o)) in
     let u = units-tail a.size 0 o a.out.now c.if-behind-eq1.false c.if-out-behind.false (take (length o - a.size) (drop a.size o)) rest in
-    record { answer = ap Done c.lay_units.ensures.answer ∙ u.0; buffer = c.lay_units.ensures.buffer ∙ u.1 }
+    record { answer = ap Ok c.lay_units.ensures.answer ∙ u.0; buffer = c.lay_units.ensures.buffer ∙ u.1 }

@@ -6,16 +6,16 @@ use Rattle.parted.specs.Inner.{counted_as}
 use Rattle.parts.proofs.Settled.{counts-text, counts-refused}
 use Rattle.parts.proofs.count_parts.Goals as goal
 
-pub returns-in-Text : goal.returns-in-Text
-returns-in-Text c = record {
+pub returns-in-Ok : goal.returns-in-Ok
+returns-in-Ok c = record {
   answer = let a = c.args in
       c.counted.ensures
       ∙ ap counted_as (c.plan.ensures.answer ∙ ap (λ (b : Bool). planned_as b a.units.now) c.ucs2.ensures.answer)
-      ∙ counts-text a.reading a.units.now _ (sym c.in-Text.is ∙ c.settle.ensures.answer);
+      ∙ counts-text a.reading a.units.now _ (sym c.in-Ok.is ∙ c.settle.ensures.answer);
 }
 
-pub returns-in-Refused : goal.returns-in-Refused
-returns-in-Refused c = record {
+pub returns-in-Err : goal.returns-in-Err
+returns-in-Err c = record {
   answer = let a = c.args in
-      counts-refused a.reading a.units.now _ (sym c.in-Refused.is ∙ c.settle.ensures.answer);
+      counts-refused a.reading a.units.now _ (sym c.in-Err.is ∙ c.settle.ensures.answer);
 }

@@ -43,8 +43,8 @@ returns-else-sizes-plan c = let a = c.args in
       sizes = w.1.1;
     }
 
-pub returns-in-Refused : goal.returns-in-Refused
-returns-in-Refused c = let a = c.args in
-    let told = c.in-Refused.ensures.answer ∙ ap (λ (b : Bool). planned_as b a.units.now) c.ucs2.ensures.answer in
+pub returns-in-Err : goal.returns-in-Err
+returns-in-Err c = let a = c.args in
+    let told = c.in-Err.ensures.answer ∙ ap (λ (b : Bool). planned_as b a.units.now) c.ucs2.ensures.answer in
     let w = all-refused a.coding.ucs2 a.coding.octet a.reference a.units.now _ told a.out.now a.sizes.now in
     record { answer = w.0; buffer = w.1.0; sizes = w.1.1 }

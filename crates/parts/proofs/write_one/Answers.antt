@@ -47,7 +47,7 @@ returns-else-out-size c = let a = c.args in
     let w = one-done a.coding.ucs2 c.octet.result a.reference a.units.now c.in-Parts.plan told a.number a.out.now there (omega (arith, c.part_size-size.ensures.1, c.if-out-size.false)) _ _ c.part_size-size.ensures.1 c.part_size-size.ensures.0 _ c.put_one.ensures in
     record { answer = w.0 ∙ ap (λ (o : ℕ). text_part a.coding.ucs2 o a.reference a.units.now a.number (length a.out.now)) c.octet.ensures.answer; buffer = w.1 }
 
-pub returns-in-Refused : goal.returns-in-Refused
-returns-in-Refused c = let a = c.args in
-    let told = c.in-Refused.ensures.answer ∙ ap (λ (b : Bool). planned_as b a.units.now) c.ucs2.ensures.answer in
+pub returns-in-Err : goal.returns-in-Err
+returns-in-Err c = let a = c.args in
+    let told = c.in-Err.ensures.answer ∙ ap (λ (b : Bool). planned_as b a.units.now) c.ucs2.ensures.answer in
     answered (one-refused a.coding.ucs2 a.coding.octet a.reference a.units.now _ told a.number a.out.now)

@@ -3,12 +3,12 @@ use mathlib.Core.Path.{◌∙◌}
 use Rattle.parts.proofs.Settled.{parts-text, parts-refused}
 use Rattle.parts.proofs.write_parts.Goals as goal
 
-pub returns-in-Text : goal.returns-in-Text
-returns-in-Text c = let a = c.args in
-    let w = parts-text a.reading a.units.now _ c.in-Text.ensures.answer a.reference a.out.now a.sizes.now in
+pub returns-in-Ok : goal.returns-in-Ok
+returns-in-Ok c = let a = c.args in
+    let w = parts-text a.reading a.units.now _ c.in-Ok.ensures.answer a.reference a.out.now a.sizes.now in
     record { answer = c.write_all.ensures.answer ∙ w.0; buffer = c.write_all.ensures.buffer ∙ w.1.0; sizes = c.write_all.ensures.sizes ∙ w.1.1 }
 
-pub returns-in-Refused : goal.returns-in-Refused
-returns-in-Refused c = let a = c.args in
-    let w = parts-refused a.reading a.units.now _ c.in-Refused.ensures.answer a.reference a.out.now a.sizes.now in
+pub returns-in-Err : goal.returns-in-Err
+returns-in-Err c = let a = c.args in
+    let w = parts-refused a.reading a.units.now _ c.in-Err.ensures.answer a.reference a.out.now a.sizes.now in
     record { answer = w.0; buffer = w.1.0; sizes = w.1.1 }

@@ -6,23 +6,16 @@ use borrow.Author.Rules.{rules}
 use Rattle.words.proofs.Clauses.{answered}
 use Rattle.reader.proofs.read_message.Goals as goal
 
+pub returns-in_err-reading : goal.returns-in_err-reading
+returns-in_err-reading c = let a = c.args in
+    answered (read-refused a.service a.coding a.count a.octets.now _ a.out.now c.in_err-reading.ensures.answer)
+
 pub returns-then-lettered : goal.returns-then-lettered
 returns-then-lettered c = let a = c.args in
-    let s =
-    lettered-reads a.service a.coding a.count a.octets.now a.out.now c.in-Done.reading (search rules)
-    (sym c.in-Done.is ∙ c.read_octet.ensures.answer) (sym c.lettered.ensures.answer ∙ c.if-lettered.true)
-    in
+    let s = lettered-reads a.service a.coding a.count a.octets.now a.out.now c.in_ok-reading.reading (search rules) c.in_ok-reading.ensures.answer c.if-lettered.ensures.answer in
     record { answer = c.read_page.ensures.answer ∙ s.0; buffer = c.read_page.ensures.buffer ∙ s.1 }
 
-pub returns-else-lettered : goal.returns-else-lettered
-returns-else-lettered c = let a = c.args in
-    let s =
-    read_done a.service a.coding a.count a.octets.now c.in-Done.reading a.out.now
-    (sym c.in-Done.is ∙ c.read_octet.ensures.answer) (sym c.lettered.ensures.answer ∙ c.if-lettered.false)
-    in
+pub returns : goal.returns
+returns c = let a = c.args in
+    let s = read_done a.service a.coding a.count a.octets.now c.in_ok-reading.reading a.out.now c.in_ok-reading.ensures.answer (sym c.lettered.ensures.answer ∙ c.if-lettered.false) in
     record { answer = c.read_held.ensures.answer ∙ s.0; buffer = c.read_held.ensures.buffer ∙ s.1 }
-
-pub returns-in-Refused : goal.returns-in-Refused
-returns-in-Refused c = let a = c.args in
-    answered
-    (read-refused a.service a.coding a.count a.octets.now _ a.out.now (sym c.in-Refused.is ∙ c.read_octet.ensures.answer))

@@ -1,13 +1,14 @@
 -- A text whose units are all their own codes has as many septets; another is measured. Assumes nothing.
+use Rattle.std.specs.Prelude.{ℕ}
 use mathlib.Core.Path.{◌≡◌, sym, ap₂, ◌∙◌}
 use mathlib.Core.Bool.{Bool}
-use Rattle.letters.specs.declared.Measured.{Measured}
 use Rattle.letters.specs.declared.Surveyed.{Surveyed}
 use Rattle.letters.proofs.Counting.{own-counted}
 use Rattle.to_septets.proofs.survey.Goals as goal
+use Rattle.std.specs.Prelude.{Result}
 
-seen : {own own' : Bool} {m m' : Measured} → own ≡ own' → m ≡ m' → ◌≡◌ {A = Surveyed} (record { own = own; measured = m }) (record { own = own'; measured = m' })
-seen = ap₂ (λ (own : Bool) (m : Measured). record { own = own; measured = m })
+seen : {own own' : Bool} {m m' : Result ℕ ℕ} → own ≡ own' → m ≡ m' → ◌≡◌ {A = Surveyed} (record { own = own; measured = m }) (record { own = own'; measured = m' })
+seen = ap₂ (λ (own : Bool) (m : Result ℕ ℕ). record { own = own; measured = m })
 
 pub returns-then-own_text : goal.returns-then-own_text
 returns-then-own_text c = record {

@@ -6,7 +6,6 @@ use native.Mathlib.Omega.{arith}
 use lib.ListN.{length, take}
 use lib.Seq.{length-take-le}
 use Rattle.lists.specs.Lists.{laid}
-use Rattle.words.specs.declared.Filled.TheVariants.{Done}
 use Rattle.stream.specs.Ucs2.{octet_units}
 use Rattle.stream.proofs.UnitOctets.{octet-units-length}
 use Rattle.stream.proofs.Given.{Gives, given-short, given-done}
@@ -15,6 +14,7 @@ use Rattle.to_units.proofs.get_units.Reads as reads
 use Rattle.to_units.proofs.get_units.Tie as tie
 use Rattle.words.proofs.Clauses.{answered}
 use Rattle.to_units.proofs.get_units.Goals as goal
+use Rattle.std.specs.Prelude.{Ok}
 
 -- there are n units
 size : (c : lts.Start tie.the-claims reads.Pre reads.Post tie.handed_clauses) → length (take c.args.n (octet_units c.args.octets.now)) ≡ c.args.n
@@ -25,7 +25,7 @@ returns-then-out-n c = answered (given-short (take c.args.n (octet_units c.args.
 
 -- where there is room
 done : (c : lts.Else1 tie.the-claims reads.Pre reads.Post tie.handed_clauses) (left : List ℕ) → let a = c.args in
-    left ≡ laid (take a.n (octet_units a.octets.now)) a.out.now → Gives (take a.n (octet_units a.octets.now)) a.out.now (Done a.n) left
+    left ≡ laid (take a.n (octet_units a.octets.now)) a.out.now → Gives (take a.n (octet_units a.octets.now)) a.out.now (Ok a.n) left
 done c left e =
     let a = c.args in
     given-done (take a.n (octet_units a.octets.now)) a.out.now (sym (size c.before.before.before)) (omega (arith, size c.before.before.before)) e

@@ -6,16 +6,18 @@ use Rattle.stream.specs.Answers.{packed_count}
 use Prim.Native.Nat.{◌≤◌}
 use mathlib.Core.Path.{sym, ◌∙◌, subst}
 use Rattle.wikuay.proofs.wikuay_pack.Goals as goal
+use Rattle.std.specs.Prelude.{Result}
+use Rattle.words.specs.declared.Refusal.{Refusal}
 
 pub packed-requires : goal.packed-requires
-packed-requires c = subst (λ (a : Packed). packed_count a ≤ 160) (sym c.pack.ensures.answer) (pack-count _ _ _)
+packed-requires c = subst (λ (a : Result Packed Refusal). packed_count a ≤ 160) (sym c.pack.ensures.answer) (pack-count _ _ _)
 
-pub returns-in-Named : goal.returns-in-Named
+pub returns-in-Some : goal.returns-in-Some
 unfolding pack_gives pack_keeps
-returns-in-Named c =
-    record { answer = simp (c.packed.ensures, c.pack.ensures.answer, sym c.named_service.ensures.answer ∙ c.in-Named.is); buffer = simp (c.pack.ensures.buffer, sym c.named_service.ensures.answer ∙ c.in-Named.is) }
+returns-in-Some c =
+    record { answer = simp (c.packed.ensures, c.pack.ensures.answer, sym c.named_service.ensures.answer ∙ c.in-Some.is); buffer = simp (c.pack.ensures.buffer, sym c.named_service.ensures.answer ∙ c.in-Some.is) }
 
-pub returns-in-Unnamed : goal.returns-in-Unnamed
+pub returns-in-None : goal.returns-in-None
 unfolding pack_gives pack_keeps
-returns-in-Unnamed c =
-    record { answer = simp (c.refused.ensures.answer, sym c.named_service.ensures.answer ∙ c.in-Unnamed.is); buffer = simp (sym c.named_service.ensures.answer ∙ c.in-Unnamed.is) }
+returns-in-None c =
+    record { answer = simp (c.refused.ensures.answer, sym c.named_service.ensures.answer ∙ c.in-None.is); buffer = simp (sym c.named_service.ensures.answer ∙ c.in-None.is) }

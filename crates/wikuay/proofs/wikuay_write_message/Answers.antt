@@ -13,17 +13,19 @@ use lib.ListN.{length}
 use mathlib.Core.Path.{ap, sym, subst, ◌∙◌}
 use Rattle.words.proofs.Clauses.{answered}
 use Rattle.wikuay.proofs.wikuay_write_message.Goals as goal
+use Rattle.std.specs.Prelude.{Result}
+use Rattle.words.specs.declared.Refusal.{Refusal}
 
 pub message_written-requires : goal.message_written-requires
 message_written-requires c = let a = c.args in
-    let n = sym c.named_service.ensures.answer ∙ c.in-Named.is in
+    let n = sym c.named_service.ensures.answer ∙ c.in-Some.is in
     let g = gives-coded a.service a.reading _ n a.text.now a.out.now in
     let w = c.write_coded.ensures.answer ∙ ap (λ (x : MessageCoding). coded_writes x a.text.now (length a.out.now)) c.coded.ensures.answer in
-    subst (λ (w : MessageWritten). write_count w ≤ 160) (sym w) (subst (λ (k : ℕ). k ≤ 160) (sym (ap (λ (b : Answer). b.count) g.0)) (gives-count a.service a.reading a.text.now (length a.out.now)))
+    subst (λ (w : Result MessageWritten Refusal). write_count w ≤ 160) (sym w) (subst (λ (k : ℕ). k ≤ 160) (sym (ap (λ (b : Answer). b.count) g.0)) (gives-count a.service a.reading a.text.now (length a.out.now)))
 
-pub returns-in-Named : goal.returns-in-Named
-returns-in-Named c = let a = c.args in
-    let n = sym c.named_service.ensures.answer ∙ c.in-Named.is in
+pub returns-in-Some : goal.returns-in-Some
+returns-in-Some c = let a = c.args in
+    let n = sym c.named_service.ensures.answer ∙ c.in-Some.is in
     let g = gives-coded a.service a.reading _ n a.text.now a.out.now in
     answered
     ((
@@ -31,7 +33,7 @@ returns-in-Named c = let a = c.args in
       c.write_coded.ensures.buffer ∙ ap (λ (x : MessageCoding). coded_leaves x a.text.now a.out.now) c.coded.ensures.answer ∙ g.1,
     ))
 
-pub returns-in-Unnamed : goal.returns-in-Unnamed
+pub returns-in-None : goal.returns-in-None
 unfolding write_message_gives write_message_keeps
-returns-in-Unnamed c = let n = sym c.named_service.ensures.answer ∙ c.in-Unnamed.is in
+returns-in-None c = let n = sym c.named_service.ensures.answer ∙ c.in-None.is in
     record { answer = simp (c.refused.ensures.answer, n); buffer = simp n }

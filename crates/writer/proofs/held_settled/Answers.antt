@@ -7,5 +7,5 @@ returns-in-Septets c = simp c.in-Septets.is
 pub returns-in-Units : goal.returns-in-Units
 returns-in-Units c = simp c.in-Units.is
 
-pub returns-in-Refused : goal.returns-in-Refused
-returns-in-Refused c = simp c.in-Refused.is
+pub returns-in-Err : goal.returns-in-Err
+returns-in-Err c = simp c.in-Err.is

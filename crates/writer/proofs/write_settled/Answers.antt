@@ -1,10 +1,10 @@
 -- `write_settled` meets its contract: what is settled is written, or handed on. Assumes nothing.
 use Rattle.writer.proofs.write_settled.Goals as goal
 
-pub returns-in-Text : goal.returns-in-Text
-returns-in-Text c =
-    record { answer = simp (c.write_text.ensures.answer, c.in-Text.is); buffer = simp (c.write_text.ensures.buffer, c.in-Text.is) }
+pub returns-in-Ok : goal.returns-in-Ok
+returns-in-Ok c =
+    record { answer = simp (c.write_text.ensures.answer, c.in-Ok.is); buffer = simp (c.write_text.ensures.buffer, c.in-Ok.is) }
 
-pub returns-in-Refused : goal.returns-in-Refused
-returns-in-Refused c =
-    record { answer = simp c.in-Refused.is; buffer = simp c.in-Refused.is }
+pub returns-in-Err : goal.returns-in-Err
+returns-in-Err c =
+    record { answer = simp c.in-Err.is; buffer = simp c.in-Err.is }

@@ -17,8 +17,8 @@ returns-then-plain-2 c = record {
       ap coding.Text c.settle_plain-then-plain-2.ensures.answer ∙ sym (named-coded s _ (c.plain-2.ensures c.if-plain-2.true) ∙ plain-coded s true);
 }
 
-pub returns-in-Named : goal.returns-in-Named
-returns-in-Named c = record { answer = c.code_message.ensures.answer ∙ sym (named-coded c.args.service _ (sym c.any_reading.ensures ∙ c.in-Named.is)) }
+pub returns-in-Some : goal.returns-in-Some
+returns-in-Some c = record { answer = c.code_message.ensures.answer ∙ sym (named-coded c.args.service _ (sym c.any_reading.ensures ∙ c.in-Some.is)) }
 
-pub returns-in-Unnamed : goal.returns-in-Unnamed
-returns-in-Unnamed c = record { answer = sym (unnamed-coded c.args.service _ (sym c.any_reading.ensures ∙ c.in-Unnamed.is)) }
+pub returns-in-None : goal.returns-in-None
+returns-in-None c = record { answer = sym (unnamed-coded c.args.service _ (sym c.any_reading.ensures ∙ c.in-None.is)) }

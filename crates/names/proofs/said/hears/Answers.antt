@@ -12,5 +12,5 @@ returns-then-lettered_octet c = record {
       lettered-heard a.service a.coding within (sym c.lettered_octet.ensures.answer ∙ c.if-lettered_octet.true);
 }
 
-pub returns-in-Done : goal.returns-in-Done
-returns-in-Done c = record { answer = c.reading_heard.ensures ∙ clear-heard _ _ _ (sym c.lettered_octet.ensures.answer ∙ c.if-lettered_octet.false) (sym c.read_octet.ensures.answer ∙ c.in-Done.is) }
+pub returns-in-Ok : goal.returns-in-Ok
+returns-in-Ok c = record { answer = c.reading_heard.ensures ∙ clear-heard _ _ _ (sym c.lettered_octet.ensures.answer ∙ c.if-lettered_octet.false) (sym c.read_octet.ensures.answer ∙ c.in-Ok.is) }

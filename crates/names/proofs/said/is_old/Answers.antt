@@ -3,6 +3,6 @@ use Rattle.names.proofs.Settled.{old-plain}
 use mathlib.Core.Path.{sym, ◌∙◌}
 use Rattle.names.proofs.said.is_old.Goals as goal
 
-pub returns-in-Done : goal.returns-in-Done
-returns-in-Done c = let a = c.args in
-    old-plain a.coding _ a.ucs2 (sym c.read_octet.ensures.answer ∙ c.in-Done.is)
+pub returns-in-Ok : goal.returns-in-Ok
+returns-in-Ok c = let a = c.args in
+    old-plain a.coding _ a.ucs2 (sym c.read_octet.ensures.answer ∙ c.in-Ok.is)

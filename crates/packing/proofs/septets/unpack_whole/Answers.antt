@@ -6,7 +6,6 @@ use mathlib.Core.List.{List}
 use native.Mathlib.Omega.{arith}
 use borrow.Author.Tests.{lt-ltb, le-ltb}
 use lib.ListN.{length}
-use Rattle.words.specs.declared.Filled.TheVariants.{Done}
 use Rattle.words.specs.declared.Service.{Service}
 use Rattle.lists.specs.Lists.{laid}
 use Rattle.words.specs.Judging.{verdict}
@@ -19,6 +18,7 @@ use Rattle.stream.proofs.Arrays.{held-septets}
 use borrow.Author.Rules.{rules}
 use Rattle.words.proofs.Clauses.{answered}
 use Rattle.packing.proofs.septets.unpack_whole.Goals as goal
+use Rattle.std.specs.Prelude.{Ok}
 
 pub returns-then-not-fits : goal.returns-then-not-fits
 unfolding all_rules all_answers all_leaves verdict
@@ -60,4 +60,4 @@ returns c =
     let same : length (all_septets a.service a.count o) ≡ c.septets_held-all.result = size a.service a.count o c.septets_held-all.ensures in
     let room : length (all_septets a.service a.count o) ≤ length a.out.now = omega arith in
     answered
-    (simp (fit, le-ltb _ _ room) (ap Done (sym same), c.unpack_into.ensures ∙ ap (λ (l : List ℕ). laid l a.out.now) (all a.service a.count o c.septets_held-all.ensures)))
+    (simp (fit, le-ltb _ _ room) (ap Ok (sym same), c.unpack_into.ensures ∙ ap (λ (l : List ℕ). laid l a.out.now) (all a.service a.count o c.septets_held-all.ensures)))

@@ -10,16 +10,16 @@ use Rattle.wikuay.proofs.broadcasts.wikuay_build_page.Goals as goal
 pub counted-requires : goal.counted-requires
 counted-requires c = subst (λ (b : Built). counted_pages b.answer ≤ 15) (sym c.build_page-page.ensures.answer) (built-within _ _ _ _ _)
 
-pub returns-in-Named : goal.returns-in-Named
+pub returns-in-Some : goal.returns-in-Some
 unfolding build_page_gives
-returns-in-Named c = record {
-  answer = let n = sym c.reading.ensures.answer ∙ c.in-Named.is in
+returns-in-Some c = record {
+  answer = let n = sym c.reading.ensures.answer ∙ c.in-Some.is in
       simp (c.page.ensures.answer, c.counted.ensures, c.build_page-page.ensures.answer, n);
 }
 
-pub returns-in-Unnamed : goal.returns-in-Unnamed
+pub returns-in-None : goal.returns-in-None
 unfolding build_page_gives
-returns-in-Unnamed c = record {
-  answer = let n = sym c.reading.ensures.answer ∙ c.in-Unnamed.is in
-      simp (c.page-in-Unnamed.ensures.answer, c.pages_refused.ensures.answer, n);
+returns-in-None c = record {
+  answer = let n = sym c.reading.ensures.answer ∙ c.in-None.is in
+      simp (c.page-in-None.ensures.answer, c.pages_refused.ensures.answer, n);
 }

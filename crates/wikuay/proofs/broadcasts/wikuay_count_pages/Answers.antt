@@ -1,22 +1,23 @@
 -- `wikuay_count_pages` meets its contract: the library's call does, for what the numbers name. Assumes nothing.
 use Rattle.page_answers.proofs.MostPages.{counted-within}
 use Rattle.wikuay.specs.PageCalls.{count_pages_gives}
-use Rattle.pages.specs.declared.Counted.{Counted}
 use Rattle.pages.specs.Reports.{counted_pages}
 use Prim.Native.Nat.{◌≤◌}
 use mathlib.Core.Path.{sym, ◌∙◌, subst}
 use Rattle.wikuay.proofs.broadcasts.wikuay_count_pages.Goals as goal
+use Rattle.std.specs.Prelude.{ℕ, Result}
+use Rattle.words.specs.declared.Refusal.{Refusal}
 
 pub counted-requires : goal.counted-requires
-counted-requires c = subst (λ (a : Counted). counted_pages a ≤ 15) (sym c.count_pages.ensures.answer) (counted-within _ _)
+counted-requires c = subst (λ (a : Result ℕ Refusal). counted_pages a ≤ 15) (sym c.count_pages.ensures.answer) (counted-within _ _)
 
-pub returns-in-Named : goal.returns-in-Named
+pub returns-in-Some : goal.returns-in-Some
 unfolding count_pages_gives
-returns-in-Named c = record {
-  answer = let n = sym c.reading.ensures.answer ∙ c.in-Named.is in
+returns-in-Some c = record {
+  answer = let n = sym c.reading.ensures.answer ∙ c.in-Some.is in
       simp (c.counted.ensures, c.count_pages.ensures.answer, n);
 }
 
-pub returns-in-Unnamed : goal.returns-in-Unnamed
+pub returns-in-None : goal.returns-in-None
 unfolding count_pages_gives
-returns-in-Unnamed c = record { answer = simp (c.pages_refused.ensures.answer, sym c.reading.ensures.answer ∙ c.in-Unnamed.is) }
+returns-in-None c = record { answer = simp (c.pages_refused.ensures.answer, sym c.reading.ensures.answer ∙ c.in-None.is) }

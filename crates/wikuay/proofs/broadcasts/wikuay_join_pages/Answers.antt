@@ -6,9 +6,11 @@ use Rattle.pages.specs.Reports.{join_pages}
 use Prim.Native.Nat.{◌≤◌}
 use mathlib.Core.Path.{sym, subst}
 use Rattle.wikuay.proofs.broadcasts.wikuay_join_pages.Goals as goal
+use Rattle.std.specs.Prelude.{Result}
+use Rattle.words.specs.declared.Refusal.{Refusal}
 
 pub joined-requires : goal.joined-requires
-joined-requires c = subst (λ (a : Joined). join_pages a ≤ 15) (sym c.join_pages.ensures.answer) (joined-within _ _)
+joined-requires c = subst (λ (a : Result Joined Refusal). join_pages a ≤ 15) (sym c.join_pages.ensures.answer) (joined-within _ _)
 
 pub returns : goal.returns
 unfolding join_pages_gives

@@ -6,16 +6,18 @@ use Rattle.pages.specs.Reports.{pages_pages}
 use Prim.Native.Nat.{◌≤◌}
 use mathlib.Core.Path.{sym, ◌∙◌, subst}
 use Rattle.wikuay.proofs.broadcasts.wikuay_write_pages.Goals as goal
+use Rattle.std.specs.Prelude.{Result}
+use Rattle.words.specs.declared.Refusal.{Refusal}
 
 pub pages_written-requires : goal.pages_written-requires
-pages_written-requires c = subst (λ (a : PagesWritten). pages_pages a ≤ 15) (sym c.write_pages.ensures.answer) (pages-within _ _ _ _ _)
+pages_written-requires c = subst (λ (a : Result PagesWritten Refusal). pages_pages a ≤ 15) (sym c.write_pages.ensures.answer) (pages-within _ _ _ _ _)
 
-pub returns-in-Named : goal.returns-in-Named
+pub returns-in-Some : goal.returns-in-Some
 unfolding write_pages_gives write_pages_keeps
-returns-in-Named c = let n = sym c.reading.ensures.answer ∙ c.in-Named.is in
+returns-in-Some c = let n = sym c.reading.ensures.answer ∙ c.in-Some.is in
     record { answer = simp (c.pages_written.ensures, c.write_pages.ensures.answer, n); buffer = simp (c.write_pages.ensures.buffer, n) }
 
-pub returns-in-Unnamed : goal.returns-in-Unnamed
+pub returns-in-None : goal.returns-in-None
 unfolding write_pages_gives write_pages_keeps
-returns-in-Unnamed c = let n = sym c.reading.ensures.answer ∙ c.in-Unnamed.is in
+returns-in-None c = let n = sym c.reading.ensures.answer ∙ c.in-None.is in
     record { answer = simp (c.pages_refused.ensures.answer, n); buffer = simp n }

@@ -6,9 +6,11 @@ use Rattle.parted.specs.Reports.{join_parts}
 use Prim.Native.Nat.{◌≤◌}
 use mathlib.Core.Path.{sym, subst}
 use Rattle.wikuay.proofs.long_messages.wikuay_join_parts.Goals as goal
+use Rattle.std.specs.Prelude.{Result}
+use Rattle.words.specs.declared.Refusal.{Refusal}
 
 pub joined-requires : goal.joined-requires
-joined-requires c = subst (λ (a : PartsJoined). join_parts a ≤ 255) (sym c.join_parts.ensures.answer)
+joined-requires c = subst (λ (a : Result PartsJoined Refusal). join_parts a ≤ 255) (sym c.join_parts.ensures.answer)
     (joined-within _ _ _ _ (λ k. (c.type_inv.octets k).fits))
 
 pub returns : goal.returns

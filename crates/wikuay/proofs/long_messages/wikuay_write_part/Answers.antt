@@ -6,16 +6,18 @@ use Rattle.parted.specs.Reports.{part_travels, part_parts}
 use Prim.Native.Nat.{◌≤◌}
 use mathlib.Core.Path.{sym, ◌∙◌, subst}
 use Rattle.wikuay.proofs.long_messages.wikuay_write_part.Goals as goal
+use Rattle.std.specs.Prelude.{Result}
+use Rattle.words.specs.declared.Refusal.{Refusal}
 
 pub part_written-requires : goal.part_written-requires
-part_written-requires c = subst (λ (a : PartWritten). (part_parts a ≤ 255) × (part_travels a ≤ 160)) (sym c.write_part.ensures.answer) (written-within _ _ _ _ _, count-within _ _ _ _ _)
+part_written-requires c = subst (λ (a : Result PartWritten Refusal). (part_parts a ≤ 255) × (part_travels a ≤ 160)) (sym c.write_part.ensures.answer) (written-within _ _ _ _ _, count-within _ _ _ _ _)
 
-pub returns-in-Named : goal.returns-in-Named
+pub returns-in-Some : goal.returns-in-Some
 unfolding write_part_gives write_part_keeps
-returns-in-Named c = let n = sym c.reading.ensures.answer ∙ c.in-Named.is in
+returns-in-Some c = let n = sym c.reading.ensures.answer ∙ c.in-Some.is in
     record { answer = simp (c.part_written.ensures, c.write_part.ensures.answer, n); buffer = simp (c.write_part.ensures.buffer, n) }
 
-pub returns-in-Unnamed : goal.returns-in-Unnamed
+pub returns-in-None : goal.returns-in-None
 unfolding write_part_gives write_part_keeps
-returns-in-Unnamed c = let n = sym c.reading.ensures.answer ∙ c.in-Unnamed.is in
+returns-in-None c = let n = sym c.reading.ensures.answer ∙ c.in-None.is in
     record { answer = simp (c.parts_refused.ensures.answer, n); buffer = simp n }

@@ -6,22 +6,24 @@ use Rattle.parted.specs.Reports.{parts_parts}
 use Prim.Native.Nat.{◌≤◌}
 use mathlib.Core.Path.{sym, ◌∙◌, subst}
 use Rattle.wikuay.proofs.long_messages.wikuay_write_parts.Goals as goal
+use Rattle.std.specs.Prelude.{Result}
+use Rattle.words.specs.declared.Refusal.{Refusal}
 
 pub parts_written-requires : goal.parts_written-requires
-parts_written-requires c = subst (λ (a : PartsWritten). parts_parts a ≤ 255) (sym c.write_parts.ensures.answer) (parts_within _ _ _ _ _)
+parts_written-requires c = subst (λ (a : Result PartsWritten Refusal). parts_parts a ≤ 255) (sym c.write_parts.ensures.answer) (parts_within _ _ _ _ _)
 
-pub returns-in-Named : goal.returns-in-Named
+pub returns-in-Some : goal.returns-in-Some
 unfolding write_parts_gives write_parts_keeps write_parts_lists
-returns-in-Named c =
-    let n = sym c.reading.ensures.answer ∙ c.in-Named.is in
+returns-in-Some c =
+    let n = sym c.reading.ensures.answer ∙ c.in-Some.is in
     record {
       answer = simp (c.parts_written.ensures, c.write_parts.ensures.answer, n);
       buffer = simp (c.write_parts.ensures.buffer, n);
       sizes = simp (c.write_parts.ensures.sizes, n);
     }
 
-pub returns-in-Unnamed : goal.returns-in-Unnamed
+pub returns-in-None : goal.returns-in-None
 unfolding write_parts_gives write_parts_keeps write_parts_lists
-returns-in-Unnamed c =
-    let n = sym c.reading.ensures.answer ∙ c.in-Unnamed.is in
+returns-in-None c =
+    let n = sym c.reading.ensures.answer ∙ c.in-None.is in
     record { answer = simp (c.parts_refused.ensures.answer, n); buffer = simp n; sizes = simp n }
