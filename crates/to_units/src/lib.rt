@@ -39,13 +39,8 @@ pub fn lay_units(octets: &[u8], out: &mut [u16]) -> usize
     ensures answer { result ≡ laid_count octets.now (length out.old) }
     ensures buffer { out.new ≡ laid_units octets.now out.old }
 {
-    let held = octets.len() / 2;
-    let n = if out.len() < held { out.len() } else { held };
-    let mut i: usize = 0;
-    while i < n {
-        out[i] = unit_at(octets, i);
-        i += 1;
-    }
+    let n = out.len().min(octets.len() / 2);
+    get_few(octets, n, out);
     n
 }
 
@@ -53,14 +48,10 @@ pub fn lay_units(octets: &[u8], out: &mut [u16]) -> usize
 pub fn kept(units: &[u16]) -> usize
     ensures answer { result ≡ kept_units units.now }
 {
-    let mut n = units.len();
-    while 0 < n {
-        if units[n - 1] != 13 {
-            return n;
-        }
-        n -= 1;
+    match units.iter().rposition(|unit| *unit != 13) {
+        Some(last) => last + 1,
+        None => 0,
     }
-    n
 }
 
 // Stores units: how many there are.
@@ -73,11 +64,7 @@ pub fn store(units: &[u16], out: &mut [u16]) -> Result<usize, Refusal>
     if out.len() < n {
         return Err(Refusal::NoRoom);
     }
-    let mut i: usize = 0;
-    while i < n {
-        out[i] = units[i];
-        i += 1;
-    }
+    out[..n].copy_from_slice(units);
     Ok(n)
 }
 
@@ -102,14 +89,12 @@ fn page_kept(octets: &[u8]) -> usize
     requires { length octets.now ≡ 82 }
     ensures { result ≡ length (without_closing 13 (octet_units octets.now)) }
 {
-    let mut n: usize = 41;
-    while 0 < n {
-        if unit_at(octets, n - 1) != 13 {
-            return n;
+    for n in (0..41).rev() {
+        if unit_at(octets, n) != 13 {
+            return n + 1;
         }
-        n -= 1;
     }
-    n
+    0
 }
 
 // The unit at a place: its octets as one number, low octet first, and that twice over and shifted down turns them. Read high octet first
@@ -144,10 +129,8 @@ fn get_few(octets: &[u8], n: usize, out: &mut [u16])
     requires { (2 * n ≤ length octets.now) × (n ≤ length out.old) }
     ensures { out.new ≡ laid (take n (octet_units octets.now)) out.old }
 {
-    let mut i: usize = 0;
-    while i < n {
+    for i in 0..n {
         out[i] = unit_at(octets, i);
-        i += 1;
     }
 }
 
@@ -156,12 +139,10 @@ fn get_many(octets: &[u8], n: usize, out: &mut [u16])
     requires { (2 * n ≤ length octets.now) × (n ≤ length out.old) × (8 ≤ n) }
     ensures { out.new ≡ laid (take n (octet_units octets.now)) out.old }
 {
-    let mut at: usize = 0;
-    while at + 8 <= n {
-        get_eight(octets, at, out);
-        at += 8;
+    for group in 0..n / 8 {
+        get_eight(octets, 8 * group, out);
     }
-    if at < n {
+    if n % 8 != 0 {
         get_eight(octets, n - 8, out);
     }
 }
@@ -172,11 +153,7 @@ fn get_eight(octets: &[u8], at: usize, out: &mut [u16])
     ensures { out.new ≡ take at out.old ++ take 8 (drop at (octet_units octets.now)) ++ drop (at + 8) out.old }
 {
     let eight = eight_units(octets, at);
-    let mut k: usize = 0;
-    while k < 8 {
-        out[at + k] = eight[k];
-        k += 1;
-    }
+    out[at..at + 8].copy_from_slice(&eight);
 }
 
 // Eight units from at on.
@@ -185,10 +162,8 @@ fn eight_units(octets: &[u8], at: usize) -> [u16; 8]
     ensures { result ≡ take 8 (drop at (octet_units octets.now)) }
 {
     let mut eight = [0u16; 8];
-    let mut k: usize = 0;
-    while k < 8 {
+    for k in 0..8 {
         eight[k] = unit_at(octets, at + k);
-        k += 1;
     }
     eight
 }

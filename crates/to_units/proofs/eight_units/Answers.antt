@@ -9,15 +9,11 @@ use Rattle.lists.proofs.Laid.{lay-front}
 use Rattle.stream.specs.Ucs2.{octet_units}
 use Rattle.stream.proofs.UnitOctets.{octet-units-length}
 use borrow.Author.Rules.{rules}
-use Rattle.to_units.proofs.eight_units.Lts as lts
-use Rattle.to_units.proofs.eight_units.Reads as reads
-use Rattle.to_units.proofs.eight_units.Tie as tie
 use Rattle.to_units.proofs.eight_units.Goals as goal
 
--- there are eight units from at on
-within : (c : lts.Start tie.the-claims reads.Pre reads.Post goal.the-invariant-loop-k goal.the-decreases-loop-k) → 8 ≤ length (drop c.args.at (octet_units c.args.octets.now))
-within c = omega (arith, length-drop c.args.at (octet_units c.args.octets.now), octet-units-length c.args.octets.now, c.requires)
-
 pub loop-k-preserved : goal.loop-k-preserved
-loop-k-preserved c = let us : List ℕ = octet_units c.args.octets.now in
-    (search rules, lay-front (drop c.args.at us) (within c.before.before.before.before.before) (search rules) c.loop-k.invariant.1 (search rules) (c.unit_at.ensures ∙ sym (get_or-drop c.args.at us c.loop-k.k 0)))
+loop-k-preserved c =
+    let at : ℕ = c.args.at in
+    let us : List ℕ = octet_units c.args.octets.now in
+    let within : 8 ≤ length (drop at us) = omega (arith, length-drop at us, octet-units-length c.args.octets.now, c.requires) in
+    lay-front (drop at us) within (search rules) c.loop-k.invariant (search rules) (c.unit_at.ensures ∙ sym (get_or-drop at us c.loop-k.k 0))

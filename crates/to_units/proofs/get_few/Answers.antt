@@ -1,5 +1,5 @@
 -- The first n units are laid over the front of out, one after the other.
-use Prim.Native.Nat.{ℕ, ◌≤◌}
+use Prim.Native.Nat.{ℕ}
 use mathlib.Core.Path.{◌≡◌}
 use mathlib.Core.List.{List}
 use native.Mathlib.Omega.{arith}
@@ -9,20 +9,15 @@ use Rattle.lists.proofs.Laid.{lay-front, lay-end}
 use Rattle.stream.specs.Ucs2.{octet_units}
 use Rattle.stream.proofs.UnitOctets.{octet-units-length}
 use borrow.Author.Rules.{rules}
-use Rattle.to_units.proofs.get_few.Lts as lts
-use Rattle.to_units.proofs.get_few.Reads as reads
-use Rattle.to_units.proofs.get_few.Tie as tie
 use Rattle.to_units.proofs.get_few.Goals as goal
 
--- there are n units
-within : (c : lts.Start tie.the-claims reads.Pre reads.Post goal.the-invariant-loop-i goal.the-decreases-loop-i) → c.args.n ≤ length (octet_units c.args.octets.now)
-within c = omega (arith, octet-units-length c.args.octets.now, c.requires)
-
 pub loop-i-preserved : goal.loop-i-preserved
-loop-i-preserved c = (search rules, lay-front (octet_units c.args.octets.now) (within c.before.before.before.before.before.before) (search rules) c.loop-i.invariant.1 (search rules) c.unit_at.ensures)
+loop-i-preserved c =
+    let us : List ℕ = octet_units c.args.octets.now in
+    lay-front us (omega (arith, octet-units-length c.args.octets.now, c.requires)) (search rules) c.loop-i.invariant (search rules) c.unit_at.ensures
 
 pub returns : goal.returns
 returns c = let a = c.args in
     let xs : List ℕ = take a.n (octet_units a.octets.now) in
-    let size : length xs ≡ a.n = length-take-le a.n (octet_units a.octets.now) (within c.before.before.before.before.before) in
-    lay-end c.loop-i.invariant.1 (drop_of_length-le xs {i = c.loop-i.i} (omega arith))
+    let size : length xs ≡ a.n = length-take-le a.n (octet_units a.octets.now) (omega (arith, octet-units-length a.octets.now, c.requires)) in
+    lay-end c.loop-i.invariant (drop_of_length-le xs {i = c.loop-i.i} (omega arith))

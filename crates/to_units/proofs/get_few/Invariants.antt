@@ -1,12 +1,8 @@
 -- The first n units are laid over the front of out, one after the other.
-use Prim.Native.Nat.{◌≤◌, ◌-◌}
 use lib.ListN.{take, drop}
 use Rattle.lists.proofs.Laid.{Laying}
 use Rattle.stream.specs.Ucs2.{octet_units}
 use Rattle.to_units.proofs.get_few.Given as goal
 
 abbrev pub invariant-loop-i : goal.invariant-loop-i
-invariant-loop-i l = (l.i ≤ l.n) × Laying l.initial.out (take l.n (octet_units l.octets)) (drop l.i (take l.n (octet_units l.octets))) l.i l.out
-
-abbrev pub decreases-loop-i : goal.decreases-loop-i
-decreases-loop-i l = l.n - l.i
+invariant-loop-i l = Laying l.initial.out (take l.n (octet_units l.octets)) (drop l.i (take l.n (octet_units l.octets))) l.i l.out

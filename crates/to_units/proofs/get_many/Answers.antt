@@ -1,5 +1,5 @@
--- The units before at are laid over the front of out, and each turn lays eight more right after them; the last eight begin among those that are laid.
-use Prim.Native.Nat.{ℕ, ◌≤◌, ◌+◌, ◌-◌}
+-- The groups passed are laid over the front of out, and each turn lays eight more units right after them; the last eight begin among those that are laid.
+use Prim.Native.Nat.{ℕ, ◌≤◌, ◌+◌, ◌-◌, ◌*◌}
 use mathlib.Core.Path.{◌≡◌, refl, sym, ap, ap₂, ◌∙◌}
 use mathlib.Core.List.{List, ◌++◌}
 use native.Mathlib.Omega.{arith}
@@ -8,10 +8,6 @@ use lib.Seq.{length-take-le, take-take, take-add, take-append-le, drop-append-ad
 use Rattle.lists.specs.Lists.{laid}
 use Rattle.stream.specs.Ucs2.{octet_units}
 use Rattle.stream.proofs.UnitOctets.{octet-units-length}
-use borrow.Author.Rules.{rules}
-use Rattle.to_units.proofs.get_many.Lts as lts
-use Rattle.to_units.proofs.get_many.Reads as reads
-use Rattle.to_units.proofs.get_many.Tie as tie
 use Rattle.to_units.proofs.get_many.Goals as goal
 
 -- m elements of a list from p on, stored at their place where those before k are laid, and p is among these or right after them
@@ -29,30 +25,28 @@ laid-over xs d p m k low high fits =
     ap₂ (λ (a b : List ℕ). a ++ take m (drop p xs) ++ b) (take-append-le p front back (omega arith) ∙ take-take p k xs low) rest
     ∙ ap₂ (λ (a : List ℕ) (i : ℕ). a ++ drop i d) (sym (take-add p m xs)) (sym (length-take-le (p + m) xs fits))
 
--- there are n units
-within : (c : lts.Start tie.the-claims reads.Pre reads.Post goal.the-invariant-loop-at goal.the-decreases-loop-at) → c.args.n ≤ length (octet_units c.args.octets.now)
-within c = omega (arith, octet-units-length c.args.octets.now, c.requires)
+-- eight from p on are stored, where those before k are laid, and they end at n
+eight-over : (xs d out left : List ℕ) (p k n : ℕ) → out ≡ laid (take k xs) d → left ≡ take p out ++ take 8 (drop p xs) ++ drop (p + 8) out → p ≤ k → k ≤ p + 8 → p + 8 ≡ n → n ≤ length xs
+    → left ≡ laid (take n xs) d
+eight-over xs d out left p k n held stored low high ends fits =
+    stored
+    ∙ ap (λ (l : List ℕ). take p l ++ take 8 (drop p xs) ++ drop (p + 8) l) held
+    ∙ laid-over xs d p 8 k low high (omega arith)
+    ∙ ap (λ (i : ℕ). laid (take i xs) d) ends
 
-pub loop-at-init : goal.loop-at-init
+pub loop-group-init : goal.loop-group-init
 unfolding laid
-loop-at-init c = (search rules, refl, search rules)
+loop-group-init c = refl
 
-pub loop-at-preserved : goal.loop-at-preserved
-loop-at-preserved c = let us : List ℕ = octet_units c.args.octets.now in
-    let k : ℕ = c.loop-at.at in (
-      search rules,
-      c.get_eight.ensures
-          ∙ ap (λ (l : List ℕ). take k l ++ take 8 (drop k us) ++ drop (k + 8) l) c.loop-at.invariant.1
-          ∙ laid-over us c.args.out.now k 8 k (omega arith) (omega arith) (omega (arith, within c.before.before.before.before.before.before.before.before.before, c.loop-at-test.true)),
-      search rules,
-    )
+pub loop-group-preserved : goal.loop-group-preserved
+loop-group-preserved c =
+    let a = c.args in
+    let k : ℕ = 8 * c.loop-group.group in
+    eight-over (octet_units a.octets.now) a.out.now c.loop-group.out c.get_eight.new.out k k (8 * (c.loop-group.group + 1))
+    c.loop-group.invariant c.get_eight.ensures (omega arith) (omega arith) (omega arith) (omega (arith, octet-units-length a.octets.now, c.requires, c.loop-group-test.true))
 
-pub returns-then-at-n : goal.returns-then-at-n
-returns-then-at-n c = let n : ℕ = c.args.n in
-    let us : List ℕ = octet_units c.args.octets.now in
-    let d : List ℕ = c.args.out.now in
-    let whole : n - 8 + 8 ≡ n = omega (arith, c.requires) in
-    c.get_eight-then-at-n.ensures
-    ∙ ap (λ (l : List ℕ). take (n - 8) l ++ take 8 (drop (n - 8) us) ++ drop (n - 8 + 8) l) c.loop-at.invariant.1
-    ∙ laid-over us d (n - 8) 8 c.loop-at.at (omega (arith, c.loop-at-test.false)) (omega (arith, c.loop-at.invariant.0)) (omega (arith, within c.before.before.before.before.before.before.before.before.before.before))
-    ∙ ap (λ (i : ℕ). laid (take i us) d) whole
+pub returns-then-n-ne0 : goal.returns-then-n-ne0
+returns-then-n-ne0 c =
+    let a = c.args in
+    eight-over (octet_units a.octets.now) a.out.now c.loop-group.out c.get_eight-then-n-ne0.new.out (a.n - 8) (8 * c.loop-group.group) a.n
+    c.loop-group.invariant c.get_eight-then-n-ne0.ensures (omega (arith, c.loop-group-test.false, c.loop-group.auto)) (omega (arith, c.loop-group-test.false, c.loop-group.auto)) (omega (arith, c.requires)) (omega (arith, octet-units-length a.octets.now, c.requires))

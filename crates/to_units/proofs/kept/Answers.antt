@@ -1,21 +1,11 @@
--- The units from n on are CRs, so that the first n decide what is left.
--- Assumes nothing.
-use Rattle.lists.proofs.Closing.{filled-down, filled-here, filled-whole}
-use borrow.Author.Rules.{rules}
+-- All units behind the last that is no CR are CRs. Assumes nothing.
+use mathlib.Core.Path.{sym}
+use Rattle.std.proofs.Common.{rules}
+use Rattle.lists.proofs.Closing.{closing_none, closing_last}
 use Rattle.to_units.proofs.kept.Goals as goal
 
-pub returns-then-units-n-ne13 : goal.returns-then-units-n-ne13
-returns-then-units-n-ne13 c = record {
-  answer = let a = c.args in
-      filled-here 13 a.units.now c.loop-n.n c.loop-n.invariant.1 (search rules) c.loop-n.invariant.0 c.if-units-n-ne13.true;
-}
+pub returns-in-Some : goal.returns-in-Some
+returns-in-Some c = record { answer = sym (closing_last 13 c.args.units.now c.in-Some.last (search rules) (search rules) (search rules)) }
 
-pub loop-n-preserved : goal.loop-n-preserved
-loop-n-preserved c = let a = c.args in
-    (search rules, filled-down 13 a.units.now c.loop-n.n c.loop-n.invariant.1 (search rules) c.loop-n.invariant.0 c.if-units-n-ne13.false)
-
-pub returns : goal.returns
-returns c = record {
-  answer = let a = c.args in
-      filled-whole 13 a.units.now c.loop-n.n c.loop-n.invariant.1 (search rules);
-}
+pub returns-in-None : goal.returns-in-None
+returns-in-None c = record { answer = sym (closing_none 13 c.args.units.now (search rules)) }

@@ -1,25 +1,30 @@
 -- The units from n on are 000D, so that the first n decide what is left.
-use Prim.Native.Nat.{ℕ}
-use mathlib.Core.Path.{◌≡◌, sym, ◌∙◌, subst}
+use Prim.Native.Nat.{ℕ, ◌-◌}
+use mathlib.Core.Path.{◌≡◌, sym, ap, ◌∙◌}
 use mathlib.Core.List.{List}
+use native.Mathlib.Decide.{dec_le}
 use native.Mathlib.Omega.{arith}
-use lib.ListN.{length}
-use Rattle.lists.proofs.Closing.{FilledFrom, filled-end, filled-down, filled-here, filled-whole}
+use lib.ListN.{get_or}
+use Rattle.lists.proofs.Closing.{closing_last, closing_none}
 use Rattle.stream.specs.Ucs2.{octet_units}
 use Rattle.stream.proofs.UnitOctets.{octet-units-length}
-use borrow.Author.Rules.{rules}
 use Rattle.to_units.proofs.page_kept.Goals as goal
 
 pub loop-n-init : goal.loop-n-init
-loop-n-init c = let o : List ℕ = c.args.octets.now in
-    let size : length (octet_units o) ≡ 41 = omega (arith, octet-units-length o) in
-    (omega arith, size, subst (FilledFrom 13 (octet_units o)) size (filled-end 13 (octet_units o)))
+loop-n-init c k h l = absurd (omega (arith, octet-units-length c.args.octets.now, c.requires))
 
 pub returns-then-unit_at-ne13 : goal.returns-then-unit_at-ne13
-returns-then-unit_at-ne13 c = filled-here 13 (octet_units c.args.octets.now) c.loop-n.n c.loop-n.invariant.2 (search rules) (search rules) (λ e. c.if-unit_at-ne13.true (c.unit_at.ensures ∙ e))
+returns-then-unit_at-ne13 c =
+    let us : List ℕ = octet_units c.args.octets.now in
+    sym (closing_last 13 us (c.loop-n.n - 1) (omega (arith, octet-units-length c.args.octets.now, c.requires, c.loop-n.auto)) (λ e. c.if-unit_at-ne13.true (c.unit_at.ensures ∙ e)) (λ k h l. c.loop-n.invariant k (omega arith) l))
 
 pub loop-n-preserved : goal.loop-n-preserved
-loop-n-preserved c = (search rules, c.loop-n.invariant.1, filled-down 13 (octet_units c.args.octets.now) c.loop-n.n c.loop-n.invariant.2 (search rules) (search rules) (sym c.unit_at.ensures ∙ c.if-unit_at-ne13.false))
+loop-n-preserved c k h l =
+    let us : List ℕ = octet_units c.args.octets.now in
+    elim (dec_le c.loop-n.n k) [
+      | yes m ↦ c.loop-n.invariant k m l
+      | no m ↦ let last : k ≡ c.loop-n.n - 1 = omega arith in ap (λ (i : ℕ). get_or us i 0) last ∙ sym c.unit_at.ensures ∙ c.if-unit_at-ne13.false
+    ]
 
 pub returns : goal.returns
-returns c = filled-whole 13 (octet_units c.args.octets.now) c.loop-n.n c.loop-n.invariant.2 (search rules)
+returns c = sym (closing_none 13 (octet_units c.args.octets.now) (λ k l. c.loop-n.invariant k (omega arith) l))

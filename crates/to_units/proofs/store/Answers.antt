@@ -1,19 +1,20 @@
--- The units are laid over the front of out, one after the other.
+-- The units are copied over the front of out.
 -- Assumes nothing.
-use mathlib.Core.Path.{refl}
-use lib.ListN.{drop_of_length-le}
-use Rattle.lists.proofs.Laid.{lay-end}
-use Rattle.stream.proofs.Given.{given-short, given-done}
+use mathlib.Core.Path.{refl, ap, ◌∙◌}
+use mathlib.Core.List.{List, ◌++◌}
+use Prim.Native.Nat.{ℕ}
+use lib.ListN.{length, drop}
 use borrow.Author.Rules.{rules}
+use Rattle.lists.proofs.Laid.{laid-copy}
+use Rattle.stream.proofs.Given.{given-short, given-done}
 use Rattle.words.proofs.Clauses.{answered}
 use Rattle.to_units.proofs.store.Goals as goal
 
 pub returns-then-out-n : goal.returns-then-out-n
-returns-then-out-n c = let a = c.args in
-    answered
-    (given-short a.units.now a.out.now (search rules))
+returns-then-out-n c = answered (given-short c.args.units.now c.args.out.now (search rules))
 
 pub returns : goal.returns
-returns c = let a = c.args in
-    answered
-    (given-done a.units.now a.out.now refl (search rules) (lay-end c.loop-i.invariant.1 (drop_of_length-le a.units.now {i = c.loop-i.i} (search rules))))
+returns c =
+    let us : List ℕ = c.args.units.now in
+    let d : List ℕ = c.args.out.now in
+    answered (given-done us d refl (search rules) (ap (λ (l : List ℕ). l ++ drop (length us) d) c.copy_from_slice.ensures.after ∙ laid-copy us d (length us) refl))
