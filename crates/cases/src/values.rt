@@ -9,7 +9,6 @@ ghost use Rattle.io.specs.Counts.{IsPrefixLen};
 use crate::reading;
 use names::ReadingNumbers;
 use printed::put;
-use typed::{Elements, Number};
 
 #[derive(Clone, Copy)]
 pub(crate) struct Values {
@@ -150,8 +149,8 @@ pub(crate) fn nth(list: &[u8], i: usize) -> &[u8] {
 
 fn number_of(word: &[u8]) -> usize {
     match typed::read_number(word) {
-        Number::Is(n) => n as usize,
-        Number::Nothing => 0,
+        Some(n) => n as usize,
+        None => 0,
     }
 }
 
@@ -184,13 +183,6 @@ fn up_to(limit: usize, n: usize) -> usize {
     if n <= limit { n } else { 0 }
 }
 
-fn elements(answer: Elements) -> usize {
-    match answer {
-        Elements::Done(n) => n,
-        Elements::Nothing => 0,
-    }
-}
-
 // Takes one value by its letter.
 fn take(
     values: Values,
@@ -202,15 +194,15 @@ fn take(
 ) -> Values {
     let mut next = values;
     if letter == b'O' {
-        next.n = elements(typed::read_octets(word, octets));
+        next.n = typed::read_octets(word, octets).unwrap_or(0);
         return next;
     }
     if letter == b'U' {
-        next.n = elements(typed::read_units(word, units));
+        next.n = typed::read_units(word, units).unwrap_or(0);
         return next;
     }
     if letter == b'Z' {
-        next.listed = elements(typed::read_octets(word, list));
+        next.listed = typed::read_octets(word, list).unwrap_or(0);
         return next;
     }
     if letter == b'B' {

@@ -4,7 +4,6 @@ ghost use Rattle.io.specs.Counts.{IsPrefixLen};
 
 use crate::{fault, help, tell};
 use printed::put;
-use typed::{Elements, Number};
 
 // The services by their numbers, as they are typed: sms, cbs, ussd, old.
 pub(crate) const SMS: usize = 0;
@@ -285,7 +284,7 @@ impl Job {
     fn number(self, option: usize, word: &[u8], units: &mut [u16]) -> Job {
         let mut next = self;
         match typed::read_number(word) {
-            Number::Is(n) => {
+            Some(n) => {
                 if 65535 < n && (option == SEQUENCE || option == IDENTIFIER) {
                     return self.wrong(fault::PAIR, word, units);
                 }
@@ -298,10 +297,10 @@ impl Job {
                 next.numbers[option % 16] = n as usize;
                 next
             }
-            Number::Nothing => {
+            None => {
                 if word.len() == 0 {
                     self.fails(fault::VALUE, 2 + option % 16)
-                } else if typed::first_other(word, 10) < word.len() {
+                } else if typed::first_other(word, 10).is_some() {
                     self.wrong(fault::NUMBER, word, units)
                 } else if word[0] == b'0' {
                     self.wrong(fault::ZERO, word, units)
@@ -356,20 +355,20 @@ impl Job {
                 return next.wrong(fault::CODING, word, units);
             }
             match typed::read_octets(&digits[..n], &mut one) {
-                Elements::Done(_) => {
+                Some(_) => {
                     next.coding = one[0];
                     return next;
                 }
-                Elements::Nothing => return next.wrong(fault::CODING, word, units),
+                None => return next.wrong(fault::CODING, word, units),
             }
         }
         let n = clean(word, 3, &mut digits);
         match typed::read_units(&digits[..n], units) {
-            Elements::Done(k) => {
+            Some(k) => {
                 next.units = k;
                 next
             }
-            Elements::Nothing => next.wrong(fault::UNITS, word, units),
+            None => next.wrong(fault::UNITS, word, units),
         }
     }
 

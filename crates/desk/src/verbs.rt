@@ -4,7 +4,6 @@ use crate::{asked, broadcast, draw, fault, help, long_text, room, tell};
 use answers::{Answer, ReadAnswer};
 use names::ReadingNumbers;
 use printed::put;
-use typed::Elements;
 
 // Tells a refusal. Inside of a fact it is words in every layout.
 pub(crate) fn refused(
@@ -442,8 +441,8 @@ fn octets_of(text: &[u8], octets: &mut [u8]) -> usize {
     let mut digits = [0u8; asked::MOST];
     let n = asked::clean(text, 1, &mut digits);
     match typed::read_octets(&digits[..n], octets) {
-        Elements::Done(k) => k,
-        Elements::Nothing => 9999,
+        Some(k) => k,
+        None => 9999,
     }
 }
 

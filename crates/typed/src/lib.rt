@@ -1,159 +1,155 @@
 // Numbers as they are typed: hexadecimal digits for octets and units, and decimal numbers. Every program reads its input by these.
 #![tactic(auto)]
 
-ghost use Rattle.std.specs.Prelude.{◌≡◌, ℕ, ◌+◌, ◌^◌, ◌≤◌, ◌<◌, leb, length, get_or, take, drop};
-ghost use Rattle.lists.specs.Lists.{first_place};
-ghost use Rattle.typed.specs.Spelling.{digit_of, digit_for, number_in, elements_answers, elements_leave, zero_led, number_answers};
-
-// What reading octets or units answers.
-#[derive(Clone, Copy)]
-pub enum Elements {
-    // How many it stored at the front of the lent buffer.
-    Done(usize),
-    // It stored none: the text is no such spelling, or the buffer is too short.
-    Nothing,
-}
-
-// What reading a number answers.
-#[derive(Clone, Copy)]
-pub enum Number {
-    Is(u32),
-    Nothing,
-}
+ghost use Rattle.std.specs.Prelude.{◌≡◌, ℕ, ◌^◌, ◌≤◌, ◌<◌, length, leb, IfSome};
+ghost use Rattle.std.proofs.Common.{lit<, lit≤};
+ghost use Rattle.typed.specs.Spelling.{digit_of, digit_answers, digit_for, other_answers, number_spelled, elements_answers, elements_leave, elements_leave_as, zero_led, number_answers};
 
 // The digit of a value, 0 to F; only its low four bits count.
 pub fn digit_for(value: u8) -> u8
     ensures answer { result ≡ digit_for value }
 {
     let v = value % 16;
-    if v < 10 { v + 48 } else { v + 55 }
+    if v < 10 { b'0' + v } else { b'A' + (v - 10) }
 }
 
-// The value of a hexadecimal digit, 0 to 9 and A to F, and 16 of anything else.
-pub fn digit_of(c: u8) -> u8
-    ensures answer { result ≡ digit_of c }
+// The value of a hexadecimal digit, 0 to 9 and A to F, and none of anything else.
+pub fn digit_of(c: u8) -> Option<u8>
+    ensures answer { result ≡ digit_answers c }
 {
-    if c < 48 {
-        return 16;
+    match c {
+        b'0'..=b'9' => Some(c - b'0'),
+        b'A'..=b'F' => Some(c - b'A' + 10),
+        _ => None,
     }
-    if c < 58 {
-        return c - 48;
-    }
-    if c < 65 {
-        return 16;
-    }
-    if c < 71 {
-        return c - 55;
-    }
-    16
 }
 
-// The place of the first octet that is no digit of the base, or the length where there is none.
-pub fn first_other(text: &[u8], base: u8) -> usize
-    ensures answer { result ≡ first_place (λ (c : ℕ). leb base (digit_of c)) text.now }
+// The place of the first octet that is no digit of the base, if there is one.
+pub fn first_other(text: &[u8], base: u8) -> Option<usize>
+    ensures answer { result ≡ other_answers base text.now }
 {
-    let mut i: usize = 0;
-    while i < text.len() {
-        if base <= digit_of(text[i]) {
-            return i;
-        }
-        i += 1;
-    }
-    i
+    text.iter().position(|c| is_other(*c, base))
 }
 
-// The number of the n digits from at on.
-fn number_at(text: &[u8], at: usize, n: usize, base: u8) -> u64
-    requires by_index { (k : ℕ) → k < length text.now → digit_of (get_or text.now k 0) < base }
-    requires n_in_bounds { (at + n ≤ length text.now) × (n ≤ 10) × (base ≤ 16) }
-    ensures { (result ≡ number_in base (take n (drop at text.now))) × (result < 16 ^ n) }
+// Whether an octet is no digit of the base: 16 stands for none, which is no digit of any base that is typed.
+fn is_other(c: u8, base: u8) -> bool
+    ensures { result ≡ leb base (digit_of c) }
+{
+    base <= digit_of(c).unwrap_or(16)
+}
+
+// The number that digits of the base spell, where they are nothing else.
+fn number_of(digits: &[u8], base: u8) -> Option<u64>
+    requires few { (length digits.now ≤ 10) × (base ≤ 16) }
+    ensures answer { result ≡ number_spelled base digits.now }
+    ensures small { IfSome result (λ v. v < 16 ^ length digits.now) }
 {
     let mut v: u64 = 0;
-    let mut i: usize = 0;
-    while i < n {
-        let d = digit_of(text[at + i]);
-        v = v * (base as u64) + (d as u64);
-        i += 1;
+    for c in digits {
+        let d = digit_of(*c)?;
+        if base <= d {
+            return None;
+        }
+        v = v * u64::from(base) + u64::from(d);
     }
-    v
+    Some(v)
+}
+
+// What is typed in hexadecimal digits, so many to each.
+trait Element: Copy {
+    const DIGITS: usize;
+
+    ghost DIGITS: { ℕ };
+
+    // The element that a number is.
+    ghost spelled: { ℕ → Self };
+
+    fn of(number: u64) -> Self
+        requires { number < 16 ^ DIGITS }
+        ensures { result ≡ spelled number };
+
+    ghost some: { 0 < DIGITS };
+
+    ghost few: { DIGITS ≤ 10 };
+}
+
+impl Element for u8 {
+    const DIGITS: usize = 2;
+
+    ghost DIGITS = { 2 };
+
+    ghost spelled = { λ n. n };
+
+    fn of(number: u64) -> u8 {
+        number as u8
+    }
+
+    ghost some = { lit< tt };
+
+    ghost few = { lit≤ tt };
+}
+
+impl Element for u16 {
+    const DIGITS: usize = 4;
+
+    ghost DIGITS = { 4 };
+
+    ghost spelled = { λ n. n };
+
+    fn of(number: u64) -> u16 {
+        number as u16
+    }
+
+    ghost some = { lit< tt };
+
+    ghost few = { lit≤ tt };
+}
+
+// Reads elements. Stores them at the front of out, or nothing at all.
+fn read_elements<T: Element>(text: &[u8], out: &mut [T]) -> Option<usize>
+    ensures answer { result ≡ elements_answers T.DIGITS text.now (length out.old) }
+    ensures buffer { out.new ≡ elements_leave_as T.spelled T.DIGITS text.now out.old }
+{
+    let n = text.len() / T::DIGITS;
+    if text.len() % T::DIGITS != 0 || out.len() < n || first_other(text, 16).is_some() {
+        return None;
+    }
+    for i in 0..n {
+        let at = T::DIGITS * i;
+        out[i] = T::of(number_of(&text[at..at + T::DIGITS], 16).unwrap());
+    }
+    Some(n)
 }
 
 // Reads octets, two hexadecimal digits each. Stores them at the front of out, or nothing at all.
-pub fn read_octets(text: &[u8], out: &mut [u8]) -> Elements
+pub fn read_octets(text: &[u8], out: &mut [u8]) -> Option<usize>
     ensures answer { result ≡ elements_answers 2 text.now (length out.old) }
     ensures buffer { out.new ≡ elements_leave 2 text.now out.old }
 {
-    let n = text.len() / 2;
-    if text.len() % 2 != 0 {
-        return Elements::Nothing;
-    }
-    if out.len() < n {
-        return Elements::Nothing;
-    }
-    if first_other(text, 16) < text.len() {
-        return Elements::Nothing;
-    }
-    let mut i: usize = 0;
-    while i < n {
-        out[i] = (number_at(text, 2 * i, 2, 16) % 256) as u8;
-        i += 1;
-    }
-    Elements::Done(n)
+    read_elements(text, out)
 }
 
 // Reads units, four hexadecimal digits each. Stores them at the front of out, or nothing at all.
-pub fn read_units(text: &[u8], out: &mut [u16]) -> Elements
+pub fn read_units(text: &[u8], out: &mut [u16]) -> Option<usize>
     ensures answer { result ≡ elements_answers 4 text.now (length out.old) }
     ensures buffer { out.new ≡ elements_leave 4 text.now out.old }
 {
-    let n = text.len() / 4;
-    if text.len() % 4 != 0 {
-        return Elements::Nothing;
-    }
-    if out.len() < n {
-        return Elements::Nothing;
-    }
-    if first_other(text, 16) < text.len() {
-        return Elements::Nothing;
-    }
-    let mut i: usize = 0;
-    while i < n {
-        out[i] = (number_at(text, 4 * i, 4, 16) % 65536) as u16;
-        i += 1;
-    }
-    Elements::Done(n)
+    read_elements(text, out)
 }
 
 // Whether a zero stands in front of other digits.
 fn padded(text: &[u8]) -> bool
     ensures { result ≡ zero_led text.now }
 {
-    if text.len() < 2 {
-        return false;
-    }
-    text[0] == 48
+    matches!(text, [b'0', _, ..])
 }
 
 // Reads a decimal number of at most 4294967295, without a leading zero unless it is 0.
-pub fn read_number(text: &[u8]) -> Number
+pub fn read_number(text: &[u8]) -> Option<u32>
     ensures answer { result ≡ number_answers text.now }
 {
-    let n = text.len();
-    if n == 0 {
-        return Number::Nothing;
+    if text.is_empty() || 10 < text.len() || padded(text) {
+        return None;
     }
-    if 10 < n {
-        return Number::Nothing;
-    }
-    if padded(text) {
-        return Number::Nothing;
-    }
-    if first_other(text, 10) < n {
-        return Number::Nothing;
-    }
-    let v = number_at(text, 0, n, 10);
-    if 4294967295 < v {
-        return Number::Nothing;
-    }
-    Number::Is((v % 4294967296) as u32)
+    u32::try_from(number_of(text, 10)?).ok()
 }

@@ -1,30 +1,20 @@
 -- Digits lie in two ranges; octets before, between and after them are none.
-use mathlib.Core.Path.{refl, sym, ◌∙◌}
-use borrow.Author.Tests.{lt-ltb, le-ltb}
-use Rattle.typed.proofs.Spelling.{digit-ranged}
-use borrow.Author.Rules.{rules}
+use mathlib.Core.Path.{sym}
+use native.Mathlib.Omega.{arith}
+use Rattle.typed.proofs.Spelling.{digit-first, digit-letter, digit-before, digit-between, digit-behind}
 use Rattle.typed.proofs.digit_of.Goals as goal
 
-pub returns-then-c-lt48 : goal.returns-then-c-lt48
-returns-then-c-lt48 c = record { answer = sym (digit-ranged c.args.c (search rules) ∙ simp (lt-ltb _ _ c.if-c-lt48.true) refl) }
+pub returns-in-48-to-57 : goal.returns-in-48-to-57
+returns-in-48-to-57 c = record { answer = sym (digit-first c.args.c (omega arith) (omega arith)) }
 
-pub returns-then-c-lt58 : goal.returns-then-c-lt58
-returns-then-c-lt58 c = record { answer = sym (digit-ranged c.args.c (search rules) ∙ simp (le-ltb _ _ c.if-c-lt48.false, lt-ltb _ _ c.if-c-lt58.true) refl) }
+pub returns-in-65-to-70 : goal.returns-in-65-to-70
+returns-in-65-to-70 c = record { answer = sym (digit-letter c.args.c (omega arith) (omega arith)) }
 
-pub returns-then-c-lt65 : goal.returns-then-c-lt65
-returns-then-c-lt65 c = record {
-  answer = sym (digit-ranged c.args.c (search rules)
-      ∙ simp (le-ltb _ _ c.if-c-lt48.false, le-ltb _ _ c.if-c-lt58.false, lt-ltb _ _ c.if-c-lt65.true) refl);
-}
+pub returns-in_default : goal.returns-in_default
+returns-in_default c = let h = c.in_default in record { answer = sym (digit-before c.args.c (omega arith)) }
 
-pub returns-then-c-lt71 : goal.returns-then-c-lt71
-returns-then-c-lt71 c = record {
-  answer = sym (digit-ranged c.args.c (search rules)
-      ∙ simp (le-ltb _ _ c.if-c-lt48.false, le-ltb _ _ c.if-c-lt58.false, le-ltb _ _ c.if-c-lt65.false, lt-ltb _ _ c.if-c-lt71.true) refl);
-}
+pub returns-in_default-2 : goal.returns-in_default-2
+returns-in_default-2 c = let h = c.in_default in record { answer = sym (digit-between c.args.c (omega arith) (omega arith)) }
 
-pub returns : goal.returns
-returns c = record {
-  answer = sym (digit-ranged c.args.c (search rules)
-      ∙ simp (le-ltb _ _ c.if-c-lt48.false, le-ltb _ _ c.if-c-lt58.false, le-ltb _ _ c.if-c-lt65.false, le-ltb _ _ c.if-c-lt71.false) refl);
-}
+pub returns-in_default-3 : goal.returns-in_default-3
+returns-in_default-3 c = let h = c.in_default in record { answer = sym (digit-behind c.args.c (omega arith) (omega arith)) }

@@ -1,17 +1,17 @@
--- One octet or none has nothing behind a zero.
-use Prim.Native.Nat.{◌≤◌}
-use mathlib.Core.Path.{refl}
+-- A zero in front of another octet leads it.
 use native.Mathlib.Omega.{arith}
-use borrow.Author.Tests.{lt-ltb, le-ltb}
-use lib.ListN.{length}
 use Rattle.typed.specs.Spelling.{zero_led}
+use Rattle.std.proofs.lemmas.Grind.{common_steps}
 use Rattle.typed.proofs.padded.Goals as goal
 
-pub returns-then-text-lt2 : goal.returns-then-text-lt2
+pub returns-in-48 : goal.returns-in-48
 unfolding zero_led
-returns-then-text-lt2 c = let short : length c.args.text.now ≤ 1 = omega arith in
-    simp (le-ltb _ _ short) refl
+returns-in-48 c = grind (arith, common_steps)
 
-pub returns : goal.returns
+pub returns-in_default : goal.returns-in_default
 unfolding zero_led
-returns c = simp (lt-ltb _ _ c.if-text-lt2.false) refl
+returns-in_default c = grind (arith, common_steps)
+
+pub returns-in_default-2 : goal.returns-in_default-2
+unfolding zero_led
+returns-in_default-2 c = grind (arith, common_steps)
