@@ -22,7 +22,7 @@ use Rattle.words.specs.declared.Refusal.TheVariants.{WrongLength, TooLong, Unlis
 use Rattle.lists.specs.Lists.{laid}
 use Rattle.filling.specs.Numbered.{lacks}
 use Rattle.filling.proofs.Placing.{lacks-none, none-lacks}
-use Rattle.words.specs.Judging.{when, Verdict, refused, accepted, verdict}
+use Rattle.words.specs.Judging.{when, accepted, verdict}
 use Rattle.words.proofs.Judging.{accepted-rule, accepted-parts, accepted-both, settle-told, settle-given}
 use Rattle.coding.specs.declared.Reading.{Reading}
 use Rattle.coding.specs.OctetRead.{read_under}

@@ -45,7 +45,7 @@ use Rattle.pages.specs.Blocks.{block_of}
 use Rattle.pages.specs.Parts.{page_room, content_of, page_text}
 use Rattle.pages.specs.Written.{reading_pages, reading_content, block_as, blocks_from, blocks_as, built_as, pages_answers}
 use Rattle.pages.specs.Joined.{header_at, total_at, block_at, joined_from, joined_content, joined_reading, joined_text, join_answers}
-use Rattle.pages.specs.Reports.{pages_number, pages_written}
+use Rattle.pages.specs.Reports.{pages_number, pages_written, join_written, join_reading, join_sequence, join_identifier, join_pages}
 use Rattle.pages.specs.Messages.{filled_to, PagesWritable, PagesStorable, Sends, sent_blocks, Reordered, Joins, ReadOnce}
 use Rattle.pages.proofs.Parts.{part_filled}
 use Rattle.pages.proofs.Blocks.{page-text-length}
@@ -56,7 +56,6 @@ use Rattle.pages.proofs.Orders.{written_at, in_order, order-header, any-order-re
 use Rattle.std.specs.Prelude.{Result, Ok, Err}
 use Rattle.words.specs.declared.Refusal.{Refusal}
 use Rattle.pages.specs.Successes.{ok_joined}
-use Rattle.pages.specs.Successes.{ok_pages_written}
 
 -- ---- what a call that accepted its text has sent
 
@@ -129,8 +128,8 @@ join-unique o r s a b c d p q t u x y =
     let m = x out (omega arith) in
     let n = y out (omega arith) in
     let same : ok_joined (length t) r a c p ≡ ok_joined (length u) s b d q = sym m.0 ∙ n.0 in
-    let size : length t ≡ length u = cc in
-    ((cc), (cc), (cc), (cc), sym (take-laid t out) ∙ ap₂ take size (sym m.1 ∙ n.1) ∙ take-laid u out)
+    let size : length t ≡ length u = ap join_written same in
+    (ap join_sequence same, ap join_identifier same, ap join_reading same, ap join_pages same, sym (take-laid t out) ∙ ap₂ take size (sym m.1 ∙ n.1) ∙ take-laid u out)
 
 -- contents that are the same once filled up to n pages have the same pages
 same-pages : (sequence identifier coding total : ℕ) (ucs2 : Bool) (s t : List ℕ) (n : ℕ) → length s ≤ page_room ucs2 * n → length t ≤ page_room ucs2 * n

@@ -48,7 +48,6 @@ use Rattle.pages.proofs.Placing.{right-read-once, total-small}
 use Rattle.pages.proofs.Table.{block_here}
 use Rattle.pages.specs.Inner.{text_joins, text_join_leaves, held_joins, held_join_leaves, joined_as, Places}
 use Rattle.std.specs.Prelude.{Ok, Err}
-use Rattle.coding.specs.declared.Held.TheVariants as held
 use Rattle.pages.specs.Successes.{ok_joined}
 
 -- ---- a page that is there

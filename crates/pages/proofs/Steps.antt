@@ -22,7 +22,7 @@ use Rattle.filling.proofs.Parts.{fewest-over, fewest-are, fewest-sum, fewest-som
 use Rattle.letters.proofs.Theorems.{septets-below}
 use Rattle.words.specs.declared.Refusal.{Refusal}
 use Rattle.words.specs.declared.Refusal.TheVariants.{Unlisted, TooLong, NoRoom, WrongPages}
-use Rattle.words.specs.Judging.{Rule, when, Verdict, verdict, refused, accepted}
+use Rattle.words.specs.Judging.{Rule, when, verdict, refused, accepted}
 use Rattle.words.proofs.Judging.{verdict-refused-first, verdict-accepted-first, accepted-rule, settle-told, settle-given}
 use Rattle.letters.specs.declared.Encoded.{Encoded}
 use Rattle.letters.specs.Writing.{septets_of, first_unlisted, listed_front, encoded_as, encoded_leaves, measured}
