@@ -21,7 +21,7 @@ use borrow.Author.Tests.{le-ltb, ltb-false, not-false}
 use Rattle.words.specs.declared.Service.TheVariants.{ShortMessage}
 use Rattle.words.specs.declared.Refusal.TheVariants.{WrongLength, TooLong, Unlisted, NoRoom, WrongPages, WrongHeader}
 use Rattle.lists.specs.Lists.{first_place, laid}
-use Rattle.words.specs.Judging.{when, Verdict, refused, accepted, verdict}
+use Rattle.words.specs.Judging.{when, accepted, verdict}
 use Rattle.words.proofs.Judging.{accepted-rule, accepted-parts, accepted-both, settle-told, settle-given}
 use Rattle.coding.specs.declared.Reading.{Reading}
 use Rattle.coding.specs.OctetRead.{read_under}

@@ -25,7 +25,7 @@ use Rattle.lists.specs.Lists.{laid}
 use Rattle.lists.proofs.Tests.{and_left, and_right, or_left, or_right}
 use Rattle.words.specs.declared.Service.TheVariants.{ShortMessage}
 use Rattle.words.specs.declared.Refusal.TheVariants.{NoRoom}
-use Rattle.words.specs.Judging.{when, Verdict, refused, accepted, verdict}
+use Rattle.words.specs.Judging.{when, accepted, verdict}
 use Rattle.words.proofs.Judging.{accepted-rule, accepted-parts, accepted-both, settle-told, settle-given}
 use Rattle.words.proofs.Numbers.{number-above-0}
 use Rattle.coding.specs.declared.Reading.{Reading}

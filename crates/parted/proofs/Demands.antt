@@ -38,7 +38,7 @@ use Rattle.parted.proofs.Rooms.{parts-1-iff}
 use Rattle.parted.proofs.Headed.{headed-same, headed-header}
 use Rattle.parted.proofs.Parts.{header-own, header-long, header-none, numbers-same, content-below, part-fits, part_right, part-even, part-numbers, part-content, lone-content}
 use Rattle.parted.proofs.Accepting.{coding-back, write-accepts, write-accepted, read-accepts}
-use Rattle.std.specs.Prelude.{Result, Option, Err, None}
+use Rattle.std.specs.Prelude.{Result, Option, Ok, Err, None}
 use Rattle.words.specs.declared.Refusal.{Refusal}
 use Rattle.headed.specs.declared.Numbers.{Numbers}
 use Rattle.parted.specs.Successes.{ok_part_read}

@@ -69,7 +69,6 @@ use Rattle.parted.proofs.OrderSteps.{count_most, part-within, part-whole, start-
 use Rattle.parted.proofs.OpenRuns.{open-some, text-append, settled-closed, whole-next, read_next, open_next}
 use Rattle.std.specs.Prelude.{Option, Ok, Err, Some, None}
 use Rattle.headed.specs.declared.Numbers.{Numbers}
-use Rattle.coding.specs.declared.Held.TheVariants as held
 use Rattle.parted.specs.Successes.{ok_parts_joined}
 
 -- ---- by what the coding octet is read as

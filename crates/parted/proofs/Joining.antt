@@ -10,7 +10,7 @@
 --   join-any-order       those that are laid end to end in any order
 --   join-in-order        those that write_parts leaves, as it leaves them
 --   join-unique          parts join into one thing only
-use Rattle.words.proofs.Rules.{verdict_of}
+use Rattle.words.proofs.Rules.{verdict_of, ok-inside}
 use mathlib.Core.Path.{◌≡◌, refl, ap, ap₂, ◌∙◌, sym, subst}
 use mathlib.Core.Bool.{Bool, true}
 use mathlib.Core.List.{List, [], map}
@@ -22,7 +22,7 @@ use borrow.Author.Tests.{le-ltb, ltb-false, ne_eqb}
 use Rattle.lists.specs.Lists.{numbers_from, laid}
 use Rattle.words.specs.declared.Service.TheVariants.{ShortMessage}
 use Rattle.words.specs.declared.Refusal.TheVariants.{WrongLength, WrongHeader, WrongPages, NoRoom}
-use Rattle.words.specs.Judging.{Verdict, refused, accepted, verdict}
+use Rattle.words.specs.Judging.{accepted, verdict}
 use Rattle.words.proofs.Judging.{accepted-rule, accepted-parts, accepted-both, settle-told, settle-given}
 use Rattle.coding.specs.declared.Reading.{Reading}
 use Rattle.coding.specs.OctetRead.{read_under}
@@ -43,7 +43,7 @@ use Rattle.parted.proofs.Accepting.{coding-back}
 use Rattle.parted.proofs.Demands.{septets-content, content-text, sent-octets, sent-count}
 use Rattle.parted.proofs.All.{all-writable, all-octets, all-sizes, all-coding, all-total, all-at}
 use Rattle.parted.proofs.Orders.{right-read-once, order-right-counts, order-right-heads, order-even, order-right, order-numbers, order-content, by-other-name, ends-reordered, part-asked, in_order}
-use Rattle.std.specs.Prelude.{Result, Ok, Err}
+use Rattle.std.specs.Prelude.{Result, Err}
 use Rattle.words.specs.declared.Refusal.{Refusal}
 use Rattle.parted.specs.Successes.{ok_parts_joined}
 
@@ -211,6 +211,10 @@ join-unique coding cs o r s i j p q t u x y =
     let long : length out ≡ length t + length u = length-replicate (length t + length u) 0 in
     let m = x out (omega arith) in
     let n = y out (omega arith) in
-    let same : ok_parts_joined (length t) r i p ≡ ok_parts_joined (length u) s j q = sym m.0 ∙ n.0 in
-    let size : length t ≡ length u = cc in
-    ((cc), (cc), (cc), sym (take-laid t out) ∙ ap₂ take size (sym m.1 ∙ n.1) ∙ take-laid u out)
+    let same = ok-inside {A = PartsJoined} {E = Refusal} (sym m.0 ∙ n.0) in
+    let size : length t ≡ length u = ap (λ (z : PartsJoined). z.units) same in (
+      ap (λ (z : PartsJoined). z.reading) same,
+      ap (λ (z : PartsJoined). z.reference) same,
+      ap (λ (z : PartsJoined). z.parts) same,
+      sym (take-laid t out) ∙ ap₂ take size (sym m.1 ∙ n.1) ∙ take-laid u out,
+    )

@@ -44,7 +44,7 @@ use Rattle.parted.specs.Joined.{octets_asked, all_asked, most_count, start_at, p
 use Rattle.parted.specs.Ordered.{order_rules, places_of, start_entry, starts_of, part_order_of, places_left, starts_left}
 use Rattle.parted.specs.InnerJoined.{heads_judged, refused_order}
 use Rattle.parted.proofs.Orders.{one-total}
-use Rattle.std.specs.Prelude.{Option, Ok, Err, Some, None}
+use Rattle.std.specs.Prelude.{Result, Option, Ok, Err, Some, None}
 use Rattle.headed.specs.declared.Numbers.{Numbers}
 
 -- ---- a test of some elements of a list
@@ -248,7 +248,7 @@ module _ (ucs2 : Bool) (cs o : List ℕ) where
   unfolding heads_judged verdict
   heads-told e = go (wrong_heads ucs2 cs o) refl (odd_parts ucs2 cs o) refl e
     where
-      go : (a : Bool) → wrong_heads ucs2 cs o ≡ a → (b : Bool) → odd_parts ucs2 cs o ≡ b → (Ok tt) ≡ settle (verdict (when a WrongHeader ∷ when b WrongLength ∷ [])) Err (Ok tt)
+      go : (a : Bool) → wrong_heads ucs2 cs o ≡ a → (b : Bool) → odd_parts ucs2 cs o ≡ b → ◌≡◌ {A = Result (Unit {0}) Refusal} (Ok tt) (settle (verdict (when a WrongHeader ∷ when b WrongLength ∷ [])) Err (Ok tt))
           → (wrong_heads ucs2 cs o ≡ false) × (odd_parts ucs2 cs o ≡ false)
       go false x false y d = (x, y)
       go true x b y d = let z : ◌≡◌ {A = ℕ} 0 1 = cc in absurd (omega arith)
@@ -262,7 +262,7 @@ module _ (ucs2 : Bool) (cs o : List ℕ) where
   unfolding part_order_of order_rules heads_judged verdict
   order-headless q fits e = go (wrong_heads ucs2 cs o) refl (odd_parts ucs2 cs o) refl e
     where
-      go : (a : Bool) → wrong_heads ucs2 cs o ≡ a → (b : Bool) → odd_parts ucs2 cs o ≡ b → Err q ≡ settle (verdict (when a WrongHeader ∷ when b WrongLength ∷ [])) Err (Ok tt)
+      go : (a : Bool) → wrong_heads ucs2 cs o ≡ a → (b : Bool) → odd_parts ucs2 cs o ≡ b → ◌≡◌ {A = Result (Unit {0}) Refusal} (Err q) (settle (verdict (when a WrongHeader ∷ when b WrongLength ∷ [])) Err (Ok tt))
           → part_order_of ucs2 cs o ≡ refused_order q
       go true x b y d = let same : q ≡ WrongHeader = cc in simp (fits, x, same)
       go false x true y d = let same : q ≡ WrongLength = cc in simp (fits, x, y, same)
@@ -438,7 +438,7 @@ module _ (ucs2 : Bool) (cs o : List ℕ) (p : PartOrder) (e : p ≡ part_order_o
   unfolding part_order_of
   order-refused q d = go (verdict (order_rules ucs2 cs o)) (sym d ∙ ap (λ (x : PartOrder). x.judged) e)
     where
-      go : (v : Verdict) → Err q ≡ settle v Err (Ok tt) → v ≡ refused q
+      go : (v : Verdict) → ◌≡◌ {A = Result (Unit {0}) Refusal} (Err q) (settle v Err (Ok tt)) → v ≡ refused q
       go (refused x) s = let same : q ≡ x = cc in ap refused (sym same)
       go accepted s = let z : ◌≡◌ {A = ℕ} 0 1 = cc in absurd (omega arith)
 
@@ -446,7 +446,7 @@ module _ (ucs2 : Bool) (cs o : List ℕ) (p : PartOrder) (e : p ≡ part_order_o
   unfolding part_order_of
   order-accepted d = go (verdict (order_rules ucs2 cs o)) (sym d ∙ ap (λ (x : PartOrder). x.judged) e)
     where
-      go : (v : Verdict) → (Ok tt) ≡ settle v Err (Ok tt) → v ≡ accepted
+      go : (v : Verdict) → ◌≡◌ {A = Result (Unit {0}) Refusal} (Ok tt) (settle v Err (Ok tt)) → v ≡ accepted
       go (refused x) s = let z : ◌≡◌ {A = ℕ} 0 1 = cc in absurd (omega arith)
       go accepted s = refl
 

@@ -24,7 +24,7 @@ use lib.ListN.{length, take, drop, length-drop}
 use lib.Seq.{take_all, length-take-le}
 use Rattle.words.specs.declared.Refusal.{Refusal}
 use Rattle.words.specs.declared.Refusal.TheVariants.{Unlisted, TooLong}
-use Rattle.words.specs.Judging.{when, Verdict, refused, accepted, verdict}
+use Rattle.words.specs.Judging.{when, refused, accepted, verdict}
 use Rattle.words.proofs.Judging.{accepted-rule, settle-told, settle-given}
 use Rattle.letters.specs.Writing.{septets_of, first_unlisted, measured}
 use Rattle.letters.specs.Sized.{content_of, not_codable}
@@ -45,7 +45,7 @@ use Rattle.parted.specs.Inner.{sized_plan, plan_count, plan_octets}
 use Rattle.parted.proofs.Rooms.{septets-over-0, septets-over-6, alone-room, part_room, parts-alone, parts-marked, parts-some, parts-hold, marked-part-room}
 use Rattle.parted.proofs.Headed.{headed-length}
 use Rattle.parted.proofs.Parts.{header-long}
-use Rattle.std.specs.Prelude.{Result, Ok, Err}
+use Rattle.std.specs.Prelude.{Ok, Err}
 
 pub record Cut (p : Plan) (t : List ℕ) : Type 0 where
   pub codable : p.ucs2 ≡ false → Codable t

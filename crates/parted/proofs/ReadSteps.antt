@@ -48,7 +48,6 @@ use Rattle.parted.specs.Inner.{held_reads, held_read_leaves, behind_reads, behin
 use Rattle.parted.proofs.Behind.{unpacked-behind}
 use Rattle.std.specs.Prelude.{Option, Ok, Err, None}
 use Rattle.headed.specs.declared.Numbers.{Numbers}
-use Rattle.coding.specs.declared.Held.TheVariants as held
 use Rattle.parted.specs.Successes.{ok_text_read}
 use Rattle.parted.specs.Successes.{ok_part_read}
 
