@@ -41,8 +41,9 @@ fn put_units(units: &[u16], out: &mut [u8]) -> Result<usize, Refusal>
         return Err(Refusal::NoRoom);
     }
     for (i, &unit) in units.iter().enumerate() {
-        out[2 * i] = (unit >> 8) as u8;
-        out[2 * i + 1] = (unit & 0xff) as u8;
+        let [high, low] = unit.to_be_bytes();
+        out[2 * i] = high;
+        out[2 * i + 1] = low;
     }
     Ok(2 * n)
 }

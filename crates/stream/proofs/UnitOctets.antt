@@ -6,7 +6,6 @@ use Prim.Native.Nat.{ℕ, zero, suc, ◌+◌, ◌*◌, ◌/◌, ◌%◌, ◌<◌
 use native.Mathlib.Nat.{not-suc-le-zero, le_of_suc-le-suc}
 use native.Mathlib.Numerals.{add-one}
 use native.Mathlib.Omega.{arith}
-use lib.Arith.{digits_mod}
 use lib.ListN.{length, get_or, drop}
 use Rattle.lists.proofs.Below.{Below}
 use Rattle.stream.specs.Ucs2.{unit_octets, octet_units}
@@ -59,12 +58,6 @@ unit-octets-below [] h k = omega arith
 unit-octets-below (u ∷ us) h zero = omega (arith, h 0)
 unit-octets-below (u ∷ us) h (suc zero) = omega arith
 unit-octets-below (u ∷ us) h (suc (suc k)) = unit-octets-below us (λ i. h (suc i)) k
-
--- a unit by its octets in the other order, twice over and shifted down by one octet
-pub unit-turned : (high low : ℕ) → high < 256 → low < 256 → (high + 256 * low) * 0x10001 / 256 % 0x10000 ≡ 256 * high + low
-unit-turned high low h l =
-    let down : (high + 256 * low) * 0x10001 / 256 ≡ low * 0x10000 + (256 * high + low) = omega arith in
-    ap (λ (x : ℕ). x % 0x10000) down ∙ digits_mod low (omega arith)
 
 -- and the octets of the units of an even number of octets are the octets
 pub unit-octets-octet-units : (o : List ℕ) → Below 256 o → length o % 2 ≡ 0 → unit_octets (octet_units o) ≡ o

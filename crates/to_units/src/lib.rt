@@ -97,14 +97,12 @@ fn page_kept(octets: &[u8]) -> usize
     0
 }
 
-// The unit at a place: its octets as one number, low octet first, and that twice over and shifted down turns them. Read high octet first
-// they would be loaded one by one.
+// The unit at a place, high octet first.
 fn unit_at(octets: &[u8], i: usize) -> u16
     requires { 2 * i + 1 < length octets.now }
     ensures { result ≡ get_or (octet_units octets.now) i 0 }
 {
-    let turned = (octets[2 * i] as u32) + 256 * (octets[2 * i + 1] as u32);
-    (turned * 0x10001 / 256 % 0x10000) as u16
+    u16::from_be_bytes([octets[2 * i], octets[2 * i + 1]])
 }
 
 // Stores the first n units that octets hold.

@@ -1,12 +1,7 @@
--- The octets, low one first, twice over and shifted down by one, are the unit.
-use mathlib.Core.Path.{◌∙◌, sym}
-use Prim.Native.Nat.{◌+◌, ◌*◌}
-use lib.ListN.{get_or}
-use Rattle.stream.proofs.UnitOctets.{octet-units-at, unit-turned}
+-- The octets, high one first, are the unit.
+use native.Mathlib.Omega.{arith}
+use Rattle.stream.proofs.UnitOctets.{octet-units-at}
 use Rattle.to_units.proofs.unit_at.Goals as goal
 
 pub returns : goal.returns
-returns c =
-    let o = c.args.octets.now in
-    let i = c.args.i in
-    unit-turned (get_or o (2 * i) 0) (get_or o (2 * i + 1) 0) (c.type_inv.octets (2 * i)).fits (c.type_inv.octets (2 * i + 1)).fits ∙ sym (octet-units-at o i c.requires)
+returns c = omega (arith, c.from_be_bytes.ensures, octet-units-at c.args.octets.now c.args.i c.requires)
