@@ -7,9 +7,8 @@ ghost use Rattle.letters.specs.Reading.{read_as, text_answers, text_leaves};
 ghost use Rattle.demands.specs.MessageRead.{text_reads, text_read_leaves, lettered_as, page_reads, page_read_leaves, read_answers, read_leaves};
 ghost use Rattle.demands.specs.Inner.{held_reads, held_read_leaves, shown_as};
 
-use coding::{Held, Reading};
+use coding::Reading;
 use demands::MessageRead;
-use lettered::LetteredRead;
 use words::{Refusal, Service};
 
 // Reads a message: the units of its text and what its coding octet says.
@@ -61,11 +60,8 @@ fn read_held(
     ensures answer { result ≡ held_reads service reading count octets.now (length out.old) }
     ensures buffer { out.new ≡ held_read_leaves service reading count octets.now out.old }
 {
-    let ucs2 = match reading.holds(service)? {
-        Held::Septets => false,
-        Held::Units => true,
-    };
-    let units = read_text(service, ucs2, count, octets, out)?;
+    let text = reading.holds(service)?;
+    let units = read_text(service, text.is_ucs2(), count, octets, out)?;
     Ok(MessageRead { units, reading })
 }
 
@@ -89,7 +85,12 @@ pub fn read_text(
 }
 
 // 7-bit text: the octets unpacked into septets of our own, and those read by the alphabet of the service.
-fn read_septets(service: Service, count: usize, octets: &[u8], out: &mut [u16]) -> Result<usize, Refusal>
+fn read_septets(
+    service: Service,
+    count: usize,
+    octets: &[u8],
+    out: &mut [u16],
+) -> Result<usize, Refusal>
     ensures answer { result ≡ text_reads service false count octets.now (length out.old) }
     ensures buffer { out.new ≡ text_read_leaves service false count octets.now out.old }
 {

@@ -15,12 +15,11 @@ use Rattle.coding.specs.declared.Reading.{Reading}
 use Rattle.coding.specs.declared.Held.{Held}
 use Rattle.coding.specs.OctetWritten.{smallest}
 use Rattle.coding.specs.LanguageLetters.{coding_rules, coding_writes}
-use Rattle.coding.specs.Holding.{is_ucs2, text_rules, holds_text}
-use Rattle.demands.proofs.Steps.{coding-verdict, held-verdict, held_as, told_text, written-given, holds-text}
+use Rattle.coding.specs.Holding.{holds_units, is_ucs2, text_rules, holds_text}
+use Rattle.demands.proofs.Steps.{coding-verdict, held-verdict, held_as, told_text, written-given, holds-text, held-units}
 use Rattle.writer.specs.Settled.{settled_by, settled_as}
 use Rattle.std.specs.Prelude.{Result, Ok, Err}
 use Rattle.writer.specs.declared.TextCoding.{TextCoding}
-use Rattle.coding.specs.declared.Held.TheVariants as held
 
 abbrev pub front : Service → Reading → List Rule → Verdict
 front service r rest = verdict (coding_rules service r ++ (text_rules service r ++ rest))
@@ -54,7 +53,6 @@ unfolding settled_as
 chosen service r s e = subst (Chosen service r) (sym e) (go (coding_writes service r) refl (holds_text service r) refl)
   where
     go : (w : Result ℕ Refusal) → w ≡ coding_writes service r → (h : Result Held Refusal) → h ≡ holds_text service r → Chosen service r (settled_by service w h)
-    go (Ok coding) e (Ok held.Septets) f = (λ rest. front-text service r rest coding false e f, written-given service r coding e, holds-text service r false f)
-    go (Ok coding) e (Ok held.Units) f = (λ rest. front-text service r rest coding true e f, written-given service r coding e, holds-text service r true f)
+    go (Ok coding) e (Ok h) f = let held = held-units h ∙ f in (λ rest. front-text service r rest coding (holds_units h) e held, written-given service r coding e, holds-text service r (holds_units h) held)
     go (Ok coding) e (Err q) f = λ rest. front-none service r rest coding q e f
     go (Err q) e h f = λ rest. front-refused service r rest q e

@@ -6,7 +6,7 @@
 --   write-settled-refuses  a refusal stores nothing, and what was not settled is handed on
 --   code-message-refuses   one message is settled as none for the refusal q where its coding octet or, but on a page behind letters, its reading gives q
 --   write-coded-refuses    a refusal stores nothing
-use Rattle.words.proofs.Rules.{err-inside, verdict_of}
+use Rattle.words.proofs.Rules.{err-inside, ok-or-err, verdict_of}
 use mathlib.Core.Path.{◌≡◌, refl, ap, ◌∙◌, sym}
 use mathlib.Core.Bool.{Bool, true, false, cond}
 use mathlib.Core.List.{List, [], ◌∷◌, ◌++◌}
@@ -38,7 +38,6 @@ use Rattle.writer.specs.Settled.{settled_by, settled_as, settled_writes, settled
 use Rattle.writer.specs.Coded.{lettered_by, coded_as, coded_writes, coded_leaves}
 use Rattle.std.specs.Prelude.{Result, Ok, Err}
 use Rattle.writer.specs.declared.TextCoding.{TextCoding}
-use Rattle.coding.specs.declared.Held.TheVariants as held
 use Rattle.demands.specs.Successes.{ok_message_written}
 
 pub settle-refuses : (s : Service) (r : Reading) (q : Refusal) → settled_as s r ≡ Err q → verdict (coding_rules s r ++ text_rules s r) ≡ refused q
@@ -46,8 +45,7 @@ unfolding settled_as
 settle-refuses s r q k = go (coding_writes s r) refl (holds_text s r) refl k
   where
     go : (w : Result ℕ Refusal) → w ≡ coding_writes s r → (h : Result Held Refusal) → h ≡ holds_text s r → settled_by s w h ≡ Err q → verdict (coding_rules s r ++ text_rules s r) ≡ refused q
-    go (Ok o) e (Ok held.Septets) f k = let z : ◌≡◌ {A = ℕ} 0 1 = cc in absurd (omega arith)
-    go (Ok o) e (Ok held.Units) f k = let z : ◌≡◌ {A = ℕ} 0 1 = cc in absurd (omega arith)
+    go (Ok o) e (Ok h) f k = absurd (ok-or-err k)
     go (Ok o) e (Err p) f k =
         verdict-accepted-first (coding_rules s r) (text_rules s r) (coding-verdict s r (Ok o) e) ∙ held-verdict s r (Err p) f ∙ ap refused (err-inside k)
     go (Err p) e h f k =

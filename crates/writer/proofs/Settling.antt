@@ -2,7 +2,7 @@
 --   settled-writes  writing what a reading settles of a text by itself is writing the message, but for a page behind letters
 --   coded-writes    writing what a reading settles of one message is writing the message
 --   plain-settled   plain text is held, 7-bit or UCS2
-use mathlib.Core.Path.{◌≡◌, refl}
+use mathlib.Core.Path.{◌≡◌, refl, ◌∙◌}
 use mathlib.Core.Bool.{Bool, true, false, cond}
 use mathlib.Core.List.{List}
 use Prim.Native.Nat.{ℕ}
@@ -12,17 +12,16 @@ use Rattle.words.specs.Judging.{verdict}
 use Rattle.coding.specs.declared.Reading.{Reading}
 use Rattle.coding.specs.declared.Held.{Held}
 use Rattle.coding.specs.LanguageLetters.{is_lettered, coding_writes}
-use Rattle.coding.specs.Holding.{text_rules, holds_text}
+use Rattle.coding.specs.Holding.{holds_units, text_rules, holds_text}
 use Rattle.coding.specs.Readings.{plain_in}
 use Rattle.demands.specs.MessageWritten.{write_answers, write_leaves}
-use Rattle.demands.proofs.Steps.{text-writes, none-writes, write-refused}
+use Rattle.demands.proofs.Steps.{held-units, text-writes, none-writes, write-refused}
 use Rattle.demands.proofs.LetteredSteps.{lettered-writes}
 use Rattle.writer.specs.declared.MessageCoding.TheVariants as coding
 use Rattle.writer.specs.Settled.{settled_by, settled_as, settled_writes, settled_leaves}
 use Rattle.writer.specs.Coded.{lettered_by, coded_as, coded_writes, coded_leaves}
 use Rattle.std.specs.Prelude.{Result, Ok, Err}
 use Rattle.words.specs.declared.Refusal.{Refusal}
-use Rattle.coding.specs.declared.Held.TheVariants as held
 
 pub settled-writes : (s : Service) (r : Reading) (us out : List ℕ) → is_lettered s r ≡ false
     → (settled_writes (settled_as s r) us (length out) ≡ write_answers s r us (length out)) × (settled_leaves (settled_as s r) us out ≡ write_leaves s r us out)
@@ -31,8 +30,7 @@ settled-writes s r us out l = go (coding_writes s r) refl (holds_text s r) refl
   where
     go : (w : Result ℕ Refusal) → w ≡ coding_writes s r → (h : Result Held Refusal) → h ≡ holds_text s r
         → (settled_writes (settled_by s w h) us (length out) ≡ write_answers s r us (length out)) × (settled_leaves (settled_by s w h) us out ≡ write_leaves s r us out)
-    go (Ok octet) e (Ok held.Septets) f = text-writes s r octet us out false e f
-    go (Ok octet) e (Ok held.Units) f = text-writes s r octet us out true e f
+    go (Ok octet) e (Ok h) f = text-writes s r octet us out (holds_units h) e (held-units h ∙ f)
     go (Ok octet) e (Err q) f = none-writes s r octet us out q e l f
     go (Err q) e h f = write-refused s r us out q e
 

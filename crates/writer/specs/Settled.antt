@@ -10,12 +10,11 @@ use Rattle.words.specs.declared.Service.{Service}
 use Rattle.coding.specs.declared.Reading.{Reading}
 use Rattle.coding.specs.declared.Held.{Held}
 use Rattle.coding.specs.LanguageLetters.{coding_writes}
-use Rattle.coding.specs.Holding.{holds_text}
+use Rattle.coding.specs.Holding.{holds_units, holds_text}
 use Rattle.demands.specs.declared.MessageWritten.{MessageWritten}
 use Rattle.demands.specs.MessageWritten.{text_writes, text_write_leaves}
 use Rattle.writer.specs.declared.TextCoding.{TextCoding}
 use Rattle.words.specs.declared.Refusal.{Refusal}
-use Rattle.coding.specs.declared.Held.TheVariants as held
 
 -- the fields of a text's coding
 abbrev pub octet_in : TextCoding → ℕ
@@ -25,8 +24,7 @@ abbrev pub ucs2_in : TextCoding → Bool
 ucs2_in c = c.ucs2
 
 abbrev pub held_settled : Service → ℕ → Result Held Refusal → Result TextCoding Refusal
-held_settled service octet (Ok held.Septets) = Ok (record { service = service; octet = octet; ucs2 = false })
-held_settled service octet (Ok held.Units) = Ok (record { service = service; octet = octet; ucs2 = true })
+held_settled service octet (Ok h) = Ok (record { service = service; octet = octet; ucs2 = holds_units h })
 held_settled service octet (Err q) = Err q
 
 abbrev pub settled_by : Service → Result ℕ Refusal → Result Held Refusal → Result TextCoding Refusal

@@ -9,10 +9,9 @@ ghost use Rattle.demands.specs.Inner.{packed_as, units_as};
 ghost use Rattle.writer.specs.Settled.{octet_in, ucs2_in, held_settled, settled_as, settled_writes, settled_leaves};
 ghost use Rattle.writer.specs.Coded.{lettered_by, coded_as, coded_writes, coded_leaves};
 
-use coding::{Held, Reading};
+use coding::Reading;
 use demands::MessageWritten;
 use fields::Letters;
-use stream::Packed;
 use words::{Refusal, Service};
 
 // How a text is coded under a service: the coding octet, and whether it is UCS2. Only settle and settle_plain make one.
@@ -87,12 +86,11 @@ pub fn code_message(service: Service, reading: Reading) -> MessageCoding
 fn page_coding(reading: Reading, written: Result<u8, Refusal>) -> MessageCoding
     ensures { result ≡ lettered_by reading written }
 {
-    let letters = reading.letters;
     match written {
         Ok(octet) => MessageCoding::Lettered(PageCoding {
-            octet: octet,
+            octet,
             ucs2: reading.is_ucs2(),
-            letters: letters,
+            letters: reading.letters,
         }),
         Err(refusal) => MessageCoding::Text(Err(refusal)),
     }
@@ -101,7 +99,11 @@ fn page_coding(reading: Reading, written: Result<u8, Refusal>) -> MessageCoding
 // Writes one message for which all else is settled, and hands on why it is not.
 // Refuses, of a page behind letters, those of which one is not a to z (11); a unit that is not in the alphabet (6, the first), a text over the size
 // (5), a short buffer (7). Stores the octets at the front of out; a refusal stores nothing.
-pub fn write_coded(coding: MessageCoding, units: &[u16], out: &mut [u8]) -> Result<MessageWritten, Refusal>
+pub fn write_coded(
+    coding: MessageCoding,
+    units: &[u16],
+    out: &mut [u8],
+) -> Result<MessageWritten, Refusal>
     ensures answer { result ≡ coded_writes coding units.now (length out.old) }
     ensures buffer { out.new ≡ coded_leaves coding units.now out.old }
 {
@@ -116,25 +118,12 @@ fn write_page(coding: PageCoding, units: &[u16], out: &mut [u8]) -> Result<Messa
     ensures answer { result ≡ page_writes coding.ucs2 coding.letters coding.octet units.now (length out.old) }
     ensures buffer { out.new ≡ page_write_leaves coding.ucs2 coding.letters units.now out.old }
 {
-    let letters = coding.letters;
-    paged(
-        coding.octet,
-        lettering::write_lettered(coding.ucs2, letters, units, out),
-    )
-}
-
-// The answer of writing such a page, with the coding octet. It has no count.
-fn paged(code: u8, answer: Result<usize, Refusal>) -> Result<MessageWritten, Refusal>
-    ensures { result ≡ page_as code answer }
-{
-    match answer {
-        Ok(laid) => Ok(MessageWritten {
-            octets: laid,
-            count: 0,
-            coding: code,
-        }),
-        Err(refusal) => Err(refusal),
-    }
+    let laid = lettering::write_lettered(coding.ucs2, coding.letters, units, out)?;
+    Ok(MessageWritten {
+        octets: laid,
+        count: 0,
+        coding: coding.octet,
+    })
 }
 
 // What a reading settles of a text by itself before it is seen.
@@ -143,56 +132,39 @@ fn paged(code: u8, answer: Result<usize, Refusal>) -> Result<MessageWritten, Ref
 pub fn settle(service: Service, reading: Reading) -> Result<TextCoding, Refusal>
     ensures answer { result ≡ settled_as service reading }
 {
-    match reading.text_octet(service) {
-        Ok(octet) => held_settled(service, octet, reading.holds(service)),
-        Err(refusal) => Err(refusal),
-    }
-}
-
-// The same behind the coding octet.
-fn held_settled(service: Service, octet: u8, held: Result<Held, Refusal>) -> Result<TextCoding, Refusal>
-    ensures { result ≡ held_settled service octet held }
-{
-    match held {
-        Ok(Held::Septets) => Ok(TextCoding {
-            service: service,
-            octet: octet,
-            ucs2: false,
-        }),
-        Ok(Held::Units) => Ok(TextCoding {
-            service: service,
-            octet: octet,
-            ucs2: true,
-        }),
-        Err(refusal) => Err(refusal),
-    }
+    let octet = reading.text_octet(service)?;
+    let text = reading.holds(service)?;
+    Ok(TextCoding {
+        service,
+        octet,
+        ucs2: text.is_ucs2(),
+    })
 }
 
 // The same of plain text, 7-bit or UCS2, whose coding octet is known. Refuses an old page (8).
 pub fn settle_plain(service: Service, ucs2: bool) -> Result<TextCoding, Refusal>
     ensures answer { result ≡ settled_as service (plain_in ucs2) }
 {
-    match coding::plain_octet(service, ucs2) {
-        Ok(octet) => Ok(TextCoding {
-            service: service,
-            octet: octet,
-            ucs2: ucs2,
-        }),
-        Err(refusal) => Err(refusal),
-    }
+    let octet = coding::plain_octet(service, ucs2)?;
+    Ok(TextCoding {
+        service,
+        octet,
+        ucs2,
+    })
 }
 
 // Writes a text for which all else is settled, and hands on why it is not.
 // Refuses a unit that is not in the alphabet (6, the first), a text over the service's size (5), a short buffer (7).
 // Stores the octets at the front of out; a refusal stores nothing.
-pub fn write_settled(settled: Result<TextCoding, Refusal>, units: &[u16], out: &mut [u8]) -> Result<MessageWritten, Refusal>
+pub fn write_settled(
+    settled: Result<TextCoding, Refusal>,
+    units: &[u16],
+    out: &mut [u8],
+) -> Result<MessageWritten, Refusal>
     ensures answer { result ≡ settled_writes settled units.now (length out.old) }
     ensures buffer { out.new ≡ settled_leaves settled units.now out.old }
 {
-    match settled {
-        Ok(coding) => write_text(coding, units, out),
-        Err(refusal) => Err(refusal),
-    }
+    write_text(settled?, units, out)
 }
 
 // The same of what is settled.
@@ -200,59 +172,42 @@ fn write_text(coding: TextCoding, units: &[u16], out: &mut [u8]) -> Result<Messa
     ensures answer { result ≡ text_writes coding.service coding.ucs2 coding.octet units.now (length out.old) }
     ensures buffer { out.new ≡ text_write_leaves coding.service coding.ucs2 units.now out.old }
 {
-    let service = coding.service;
+    let TextCoding {
+        service,
+        octet,
+        ucs2,
+    } = coding;
     if service.is_old_page() {
         return Err(Refusal::Unwritable);
     }
-    if coding.ucs2 {
-        return counted(
-            service,
-            coding.octet,
-            from_units::units_to_octets(service, units, out),
-        );
-    }
-    write_septets(service, coding.octet, units, out)
-}
-
-// The answer of writing UCS2, counted by its octets, with the coding octet.
-fn counted(service: Service, octet: u8, answer: Result<usize, Refusal>) -> Result<MessageWritten, Refusal>
-    ensures { result ≡ units_as service octet answer }
-{
-    match answer {
-        Ok(stored) => Ok(MessageWritten {
+    if ucs2 {
+        let stored = from_units::units_to_octets(service, units, out)?;
+        return Ok(MessageWritten {
             octets: stored,
             count: closing::length_count(service, stored),
             coding: octet,
-        }),
-        Err(refusal) => Err(refusal),
+        });
     }
+    write_septets(service, octet, units, out)
 }
 
 // 7-bit text: its septets in an array of our own, and those packed.
-fn write_septets(service: Service, coding: u8, units: &[u16], out: &mut [u8]) -> Result<MessageWritten, Refusal>
+fn write_septets(
+    service: Service,
+    code: u8,
+    units: &[u16],
+    out: &mut [u8],
+) -> Result<MessageWritten, Refusal>
     requires { is_old_page service ≡ false }
-    ensures answer { result ≡ text_writes service false coding units.now (length out.old) }
+    ensures answer { result ≡ text_writes service false code units.now (length out.old) }
     ensures buffer { out.new ≡ text_write_leaves service false units.now out.old }
 {
     let gathered = to_septets::gather(units);
-    let septets = gathered.septets;
-    let answer = gathered.answer;
-    match answer {
-        Ok(n) => filed(coding, packing::pack_text(service, &septets, n, out)),
-        Err(refusal) => Err(refusal),
-    }
-}
-
-// The answer of packing, with the coding octet.
-fn filed(coding: u8, packed: Result<Packed, Refusal>) -> Result<MessageWritten, Refusal>
-    ensures { result ≡ packed_as coding packed }
-{
-    match packed {
-        Ok(Packed { octets, count }) => Ok(MessageWritten {
-            octets: octets,
-            count: count,
-            coding: coding,
-        }),
-        Err(refusal) => Err(refusal),
-    }
+    let n = gathered.answer?;
+    let packed = packing::pack_text(service, &gathered.septets, n, out)?;
+    Ok(MessageWritten {
+        octets: packed.octets,
+        count: packed.count,
+        coding: code,
+    })
 }

@@ -1,9 +1,10 @@
 -- `read_septets` meets its contract: the septets fit the array, and the run at its front that is left of a text is what the octets hold. Assumes nothing.
 use Rattle.demands.proofs.Septets.{unpacked-fits, unpacked-room, kept_run, kept-room, unpacked-refused, shown-reads}
-use Rattle.words.proofs.Clauses.{answered}
+use Rattle.words.proofs.Clauses.{passed}
 use lib.Seq.{length-take-le}
 use lib.ListN.{replicate}
 use mathlib.Core.Path.{refl, sym, ◌∙◌}
+use borrow.Author.Rules.{rules}
 use Rattle.reader.proofs.read_septets.Goals as goal
 
 pub slice_bounds-septets-end : goal.slice_bounds-septets-end
@@ -34,4 +35,4 @@ returns c =
 pub returns-in_err-all : goal.returns-in_err-all
 returns-in_err-all c =
     let a = c.args in
-    answered (unpacked-refused a.service a.count a.octets.now (replicate 184 0) refl _ a.out.now c.in_err-all.ensures.answer)
+    passed (search rules) (unpacked-refused a.service a.count a.octets.now (replicate 184 0) refl _ a.out.now c.in_err-all.ensures.answer)
