@@ -4,9 +4,9 @@
 ghost use Rattle.std.specs.Prelude.{◌≡◌, true, false, ◌*◌, ◌≤◌, length};
 ghost use Rattle.lists.specs.Lists.{laid};
 ghost use Rattle.pages.specs.Joined.{header_at, total_at, wrong_pages, joined_from, join_answers, join_leaves};
-ghost use Rattle.pages.specs.Inner.{held_joins, held_join_leaves, text_joins, text_join_leaves, joined_as, Places};
+ghost use Rattle.pages.specs.Inner.{held_joins, held_join_leaves, text_joins, text_join_leaves, Places};
 
-use coding::{Held, Reading};
+use coding::Reading;
 use pages::{Header, Joined};
 use words::{Refusal, Service};
 
@@ -24,47 +24,31 @@ pub fn join_pages(blocks: &[u8], out: &mut [u16]) -> Result<Joined, Refusal>
         return Err(Refusal::WrongPages);
     }
     let head = blocks::read_header(blocks::block_at(blocks, 0));
-    match coding::read_octet(Service::Broadcast, head.coding) {
-        Ok(reading) => join_held(head, reading, blocks, out),
-        Err(refusal) => Err(refusal),
-    }
+    let reading = coding::read_octet(Service::Broadcast, head.coding)?;
+    join_held(head, reading, blocks, out)
 }
 
 // Joins behind the first block's coding octet: 1, 2, 3, 10, 7.
-fn join_held(head: Header, reading: Reading, blocks: &[u8], out: &mut [u16]) -> Result<Joined, Refusal>
+fn join_held(
+    head: Header,
+    reading: Reading,
+    blocks: &[u8],
+    out: &mut [u16],
+) -> Result<Joined, Refusal>
     requires { (88 ≤ length blocks.now) × (head ≡ header_at blocks.now 0) }
     ensures answer { result ≡ held_joins head reading blocks.now (length out.old) }
     ensures buffer { out.new ≡ held_join_leaves reading blocks.now out.old }
 {
-    match reading.holds(Service::Broadcast) {
-        Ok(Held::Septets) => joined(
-            head,
-            reading,
-            join_text(false, head.total as usize, blocks, out),
-        ),
-        Ok(Held::Units) => joined(
-            head,
-            reading,
-            join_text(true, head.total as usize, blocks, out),
-        ),
-        Err(refusal) => Err(refusal),
-    }
-}
-
-// The answer of joining text, with the header and the reading.
-fn joined(head: Header, reading: Reading, answer: Result<usize, Refusal>) -> Result<Joined, Refusal>
-    ensures { result ≡ joined_as head reading answer }
-{
-    match answer {
-        Ok(units) => Ok(Joined {
-            units: units,
-            reading: reading,
-            sequence: head.sequence,
-            identifier: head.identifier,
-            pages: head.total as usize,
-        }),
-        Err(refusal) => Err(refusal),
-    }
+    let text = reading.holds(Service::Broadcast)?;
+    let pages = head.total as usize;
+    let units = join_text(text.is_ucs2(), pages, blocks, out)?;
+    Ok(Joined {
+        units,
+        reading,
+        sequence: head.sequence,
+        identifier: head.identifier,
+        pages,
+    })
 }
 
 // Joins the text of blocks, as 7-bit text or as UCS2: 10, 7.
@@ -85,7 +69,12 @@ fn join_text(ucs2: bool, total: usize, blocks: &[u8], out: &mut [u16]) -> Result
 }
 
 // 7-bit text: the septets of all pages in an array of our own, without the CRs that close them, read by the alphabet.
-fn join_septets(places: [usize; 16], total: usize, blocks: &[u8], out: &mut [u16]) -> Result<usize, Refusal>
+fn join_septets(
+    places: [usize; 16],
+    total: usize,
+    blocks: &[u8],
+    out: &mut [u16],
+) -> Result<usize, Refusal>
     requires { (wrong_pages blocks.now ≡ false) × (total ≡ total_at blocks.now 0) × Places blocks.now places }
     ensures answer { result ≡ text_joins false blocks.now (length out.old) }
     ensures buffer { out.new ≡ text_join_leaves false blocks.now out.old }
@@ -112,7 +101,12 @@ fn unpack_pages(places: [usize; 16], total: usize, blocks: &[u8], out: &mut [u8]
 }
 
 // UCS2: the units of all pages in an array of our own, without the CRs that close them.
-fn join_units(places: [usize; 16], total: usize, blocks: &[u8], out: &mut [u16]) -> Result<usize, Refusal>
+fn join_units(
+    places: [usize; 16],
+    total: usize,
+    blocks: &[u8],
+    out: &mut [u16],
+) -> Result<usize, Refusal>
     requires { (wrong_pages blocks.now ≡ false) × (total ≡ total_at blocks.now 0) × Places blocks.now places }
     ensures answer { result ≡ text_joins true blocks.now (length out.old) }
     ensures buffer { out.new ≡ text_join_leaves true blocks.now out.old }

@@ -1,23 +1,26 @@
 -- What the reading holds says how the text is joined.
 -- Assumes nothing.
-use mathlib.Core.Path.{sym, ap, ◌∙◌}
-use mathlib.Core.Bool.{true, false}
+use Rattle.std.proofs.Common.{◌≡◌, ap, ◌∙◌}
+use borrow.Author.Rules.{rules}
+use Rattle.coding.specs.Holding.{holds_text}
+use Rattle.words.specs.declared.Service.TheVariants.{Broadcast}
+use Rattle.demands.proofs.Steps.{held_as, held-units}
 use Rattle.pages.specs.Inner.{joined_as}
 use Rattle.pages.proofs.Joining.{held-joins, held_none}
-use Rattle.words.proofs.Clauses.{answered}
+use Rattle.words.proofs.Clauses.{answered, passed}
 use Rattle.joining.proofs.join_held.Goals as goal
 
-pub returns-in-Septets : goal.returns-in-Septets
-returns-in-Septets c = let a = c.args in
-    let s = held-joins a.head a.reading a.blocks.now a.out.now false (sym c.in-Septets.is ∙ c.holds.ensures.answer) in
-    record { answer = c.joined.ensures ∙ ap (joined_as a.head a.reading) c.join_text.ensures.answer ∙ s.0; buffer = c.join_text.ensures.buffer ∙ s.1 }
+pub returns-in_err-text : goal.returns-in_err-text
+returns-in_err-text c = let a = c.args in passed (search rules) (held_none a.head a.reading a.blocks.now a.out.now _ c.in_err-text.ensures.answer)
 
-pub returns-in-Units : goal.returns-in-Units
-returns-in-Units c = let a = c.args in
-    let s = held-joins a.head a.reading a.blocks.now a.out.now true (sym c.in-Units.is ∙ c.holds.ensures.answer) in
-    record { answer = c.joined-in-Units.ensures ∙ ap (joined_as a.head a.reading) c.join_text-in-Units.ensures.answer ∙ s.0; buffer = c.join_text-in-Units.ensures.buffer ∙ s.1 }
+pub returns-in_err-units : goal.returns-in_err-units
+returns-in_err-units c = let a = c.args in
+    let e : held_as c.is_ucs2.result ≡ holds_text Broadcast a.reading = ap held_as c.is_ucs2.ensures.answer ∙ held-units c.in_ok-text.text ∙ c.in_ok-text.ensures.answer in
+    let s = held-joins a.head a.reading a.blocks.now a.out.now c.is_ucs2.result e in
+    passed (search rules) (ap (joined_as a.head a.reading) c.in_err-units.ensures.answer ∙ s.0, c.join_text.ensures.buffer ∙ s.1)
 
-pub returns-in-Err : goal.returns-in-Err
-returns-in-Err c = let a = c.args in
-    answered
-    (held_none a.head a.reading a.blocks.now a.out.now _ (sym c.in-Err.is ∙ c.holds.ensures.answer))
+pub returns : goal.returns
+returns c = let a = c.args in
+    let e : held_as c.is_ucs2.result ≡ holds_text Broadcast a.reading = ap held_as c.is_ucs2.ensures.answer ∙ held-units c.in_ok-text.text ∙ c.in_ok-text.ensures.answer in
+    let s = held-joins a.head a.reading a.blocks.now a.out.now c.is_ucs2.result e in
+    answered (ap (joined_as a.head a.reading) c.in_ok-units.ensures.answer ∙ s.0, c.join_text.ensures.buffer ∙ s.1)
