@@ -8,7 +8,7 @@ ghost use Rattle.words.specs.declared.Service.TheVariants.{OldPage};
 ghost use Rattle.names.specs.Said.{coded_in, held_by, heard_by};
 
 use crate::{JoinedNumbers, ReadingNumbers};
-use coding::{Held, OctetRead, Reading};
+use coding::{Held, Reading};
 use words::{Refusal, Service};
 use writer::MessageCoding;
 
