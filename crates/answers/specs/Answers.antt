@@ -30,7 +30,6 @@ use Rattle.names.specs.declared.JoinedNumbers.{JoinedNumbers}
 use Rattle.names.specs.Names.{numbers_of}
 use Rattle.names.specs.Joined.{joined_numbers, parted_numbers}
 use Rattle.coding.specs.declared.Held.TheVariants as held
-use Rattle.lettered.specs.Successes.{ok_lettered_read}
 
 abbrev pub done_answer : ℕ → ℕ → ℕ → Answer
 done_answer count written coding = record { refusal = 0; count = count; position = 0; written = written; coding = coding }

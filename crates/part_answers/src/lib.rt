@@ -6,6 +6,7 @@ ghost use Rattle.part_answers.specs.PartAnswers.{parts_done_answer, parts_refuse
 
 use coding::Reading;
 use fields::flag;
+use headed::Numbers;
 use names::ReadingNumbers;
 use parted::PartRead;
 use words::Refusal;
