@@ -6,7 +6,6 @@ ghost use Rattle.stream.specs.SeptetCalls.{septets_fit};
 ghost use Rattle.words.specs.declared.Service.TheVariants.{Broadcast};
 ghost use Rattle.fields.specs.Letters.{are_letters};
 ghost use Rattle.lettered.specs.LetteredPage.{lettered_writes, lettered_write_leaves, letters_in, lettered_reads, lettered_read_leaves};
-ghost use Rattle.lettering.specs.Inner.{behind_letters};
 
 use fields::Letters;
 use lettered::LetteredRead;
@@ -15,7 +14,12 @@ use words::{Refusal, Service};
 // Writes a page: the octets of a text behind the letters of its language, as UCS2 or as 7-bit text with a CR behind the letters.
 // Refuses letters of which one is not a to z (11), a unit that is not in the alphabet (6, the first), a text over 90 septets or 40 units (5), a
 // short buffer (7). Stores the octets at the front of out; a refusal stores nothing.
-pub fn write_lettered(ucs2: bool, letters: Letters, units: &[u16], out: &mut [u8]) -> Result<usize, Refusal>
+pub fn write_lettered(
+    ucs2: bool,
+    letters: Letters,
+    units: &[u16],
+    out: &mut [u8],
+) -> Result<usize, Refusal>
     ensures answer { result ≡ lettered_writes ucs2 letters units.now (length out.old) }
     ensures buffer { out.new ≡ lettered_write_leaves ucs2 letters units.now out.old }
 {
@@ -63,18 +67,19 @@ fn write_units(letters: Letters, units: &[u16], out: &mut [u8]) -> Result<usize,
     let octets = from_units::page_octets(units);
     out[0] = letters.first | ((letters.second & 1) << 7);
     out[1] = letters.second >> 1;
-    let mut i: usize = 0;
-    while i < 80 {
-        out[2 + i] = octets[i];
-        i += 1;
-    }
+    out[2..82].copy_from_slice(&octets[..80]);
     Ok(82)
 }
 
 // Reads a page: the units of its text, and the letters.
 // Refuses octets that are not 82, or a count that is not 0 (4), letters of which one is not a to z, or a CR that is missing behind them in 7-bit text
 // (11), a short buffer (7). Stores the units at the front of out; a refusal stores nothing.
-pub fn read_lettered(ucs2: bool, count: usize, octets: &[u8], out: &mut [u16]) -> Result<LetteredRead, Refusal>
+pub fn read_lettered(
+    ucs2: bool,
+    count: usize,
+    octets: &[u8],
+    out: &mut [u16],
+) -> Result<LetteredRead, Refusal>
     ensures answer { result ≡ lettered_reads ucs2 count octets.now (length out.old) }
     ensures buffer { out.new ≡ lettered_read_leaves ucs2 count octets.now out.old }
 {
@@ -126,7 +131,8 @@ fn read_septets(letters: Letters, octets: &[u8], out: &mut [u16]) -> Result<Lett
     let _ = packing::unpack_all(Service::Broadcast, octets, 0, &mut septets);
     if septets[2] == 13 {
         let n = closing::text_length(Service::Broadcast, &septets[3..93]);
-        return behind(letters, to_text::septets_to_text(&septets[3..3 + n], out));
+        let units = to_text::septets_to_text(&septets[3..3 + n], out)?;
+        return Ok(LetteredRead { units, letters });
     }
     Err(Refusal::WrongLetters)
 }
@@ -140,15 +146,6 @@ fn read_units(letters: Letters, octets: &[u8], out: &mut [u16]) -> Result<Letter
     let mut units = [0u16; 40];
     to_units::lay_units(&octets[2..], &mut units);
     let n = to_units::kept(&units);
-    behind(letters, to_units::store(&units[..n], out))
-}
-
-// The answer of reading a text behind letters, with them.
-fn behind(letters: Letters, answer: Result<usize, Refusal>) -> Result<LetteredRead, Refusal>
-    ensures { result ≡ behind_letters letters answer }
-{
-    match answer {
-        Ok(units) => Ok(LetteredRead { units, letters }),
-        Err(refusal) => Err(refusal),
-    }
+    let units = to_units::store(&units[..n], out)?;
+    Ok(LetteredRead { units, letters })
 }

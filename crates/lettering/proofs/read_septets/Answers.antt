@@ -10,7 +10,8 @@ use Rattle.stream.specs.ArrayCalls.{kept_count}
 use Rattle.lettering.specs.Inner.{behind_letters}
 use Rattle.lettering.proofs.Steps.{all-unpacked, read-open, read-text}
 use Rattle.lettering.proofs.Arrays.{take-few, kept-few, kept-text}
-use Rattle.words.proofs.Clauses.{answered}
+use Rattle.words.proofs.Clauses.{answered, passed}
+use borrow.Author.Rules.{rules}
 use Rattle.lettering.proofs.read_septets.Goals as goal
 
 -- no more are left than the 90 that are looked at
@@ -23,18 +24,25 @@ overflow_add-n c = record { fits = omega (arith, few (drop 3 c.unpack_all.new.ou
 pub slice_bounds-septets_to_text-end : goal.slice_bounds-septets_to_text-end
 slice_bounds-septets_to_text-end c = omega (arith, few (drop 3 c.unpack_all.new.out) c.text_length-n.ensures.answer)
 
+pub returns-in_err-units : goal.returns-in_err-units
+returns-in_err-units c =
+    let a = c.args in
+    let array : List ℕ = c.unpack_all.new.out in
+    let all : array ≡ unpacked 93 a.octets.now = c.unpack_all.ensures.buffer ∙ all-unpacked a.octets.now (replicate 93 0) c.requires.0 refl in
+    let r =
+    read-text a.letters a.octets.now a.out.now c.requires.0 c.requires.1 c.requires.2 (λ k. (c.type_inv.octets k).fits)
+    (sym (ap (λ (s : List ℕ). get_or s 2 0) all) ∙ c.if-septets-eq13.true) (take (3 + c.text_length-n.result - 3) (drop 3 array)) (kept-text a.octets.now array c.text_length-n.result all c.text_length-n.ensures.answer) in
+    passed (search rules) (ap (behind_letters a.letters) c.in_err-units.ensures.answer ∙ r.0, c.in_err-units.ensures.buffer ∙ r.1)
+
 pub returns-then-septets-eq13 : goal.returns-then-septets-eq13
 returns-then-septets-eq13 c =
     let a = c.args in
-    let o : List ℕ = a.octets.now in
-    let n : ℕ = c.text_length-n.result in
-    -- the array holds the septets of the page
     let array : List ℕ = c.unpack_all.new.out in
-    let all : array ≡ unpacked 93 o = c.unpack_all.ensures.buffer ∙ all-unpacked o (replicate 93 0) c.requires.0 refl in
+    let all : array ≡ unpacked 93 a.octets.now = c.unpack_all.ensures.buffer ∙ all-unpacked a.octets.now (replicate 93 0) c.requires.0 refl in
     let r =
-    read-text a.letters o a.out.now c.requires.0 c.requires.1 c.requires.2 (λ k. (c.type_inv.octets k).fits)
-    (sym (ap (λ (s : List ℕ). get_or s 2 0) all) ∙ c.if-septets-eq13.true) (take (3 + n - 3) (drop 3 array)) (kept-text o array n all c.text_length-n.ensures.answer) in
-    record { answer = c.behind.ensures ∙ ap (behind_letters a.letters) c.septets_to_text.ensures.answer ∙ r.0; buffer = c.septets_to_text.ensures.buffer ∙ r.1 }
+    read-text a.letters a.octets.now a.out.now c.requires.0 c.requires.1 c.requires.2 (λ k. (c.type_inv.octets k).fits)
+    (sym (ap (λ (s : List ℕ). get_or s 2 0) all) ∙ c.if-septets-eq13.true) (take (3 + c.text_length-n.result - 3) (drop 3 array)) (kept-text a.octets.now array c.text_length-n.result all c.text_length-n.ensures.answer) in
+    record { answer = ap (behind_letters a.letters) c.in_ok-units.ensures.answer ∙ r.0; buffer = c.in_ok-units.ensures.buffer ∙ r.1 }
 
 pub returns : goal.returns
 returns c =

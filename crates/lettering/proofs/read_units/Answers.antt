@@ -1,15 +1,19 @@
 -- The 40 units behind the letters fill the array, and those that are left without closing 000D are stored. Assumes nothing.
-use Prim.Native.Nat.{ℕ, ◌≤◌}
+use Prim.Native.Nat.{ℕ, ◌≤◌, ◌-◌}
 use mathlib.Core.Path.{◌≡◌, refl, sym, ap, ◌∙◌}
 use mathlib.Core.List.{List}
 use native.Mathlib.Omega.{arith}
-use lib.ListN.{length, take, replicate}
+use lib.ListN.{length, take, drop, replicate}
 use lib.Seq.{length-take-le}
 use Rattle.lists.specs.Closing.{without_closing}
 use Rattle.lists.proofs.Closing.{closing-front, closing-length}
+use Rattle.stream.specs.Ucs2.{octet_units}
+use Rattle.to_units.specs.Laying.{laid_units}
 use Rattle.lettering.specs.Inner.{behind_letters}
 use Rattle.lettering.proofs.Steps.{read-stored}
 use Rattle.lettering.proofs.Arrays.{text-units}
+use Rattle.words.proofs.Clauses.{passed}
+use borrow.Author.Rules.{rules}
 use Rattle.lettering.proofs.read_units.Goals as goal
 
 -- the units that are left are the front of the array
@@ -22,14 +26,18 @@ slice_bounds-units-end c = within c.lay_units.new.out c.kept-n.ensures.answer
 pub slice_bounds-store-end : goal.slice_bounds-store-end
 slice_bounds-store-end c = sym (length-take-le _ _ (within c.lay_units.new.out c.kept-n.ensures.answer))
 
+-- the units that are left of the page
+run : (o array : List ℕ) {n : ℕ} → length o ≡ 82 → n ≡ length (without_closing 13 array) → array ≡ laid_units (take (length o - 2) (drop 2 o)) (replicate 40 0) → take n array ≡ without_closing 13 (octet_units (drop 2 o))
+run o array whole e all = ap (λ (n : ℕ). take n array) e ∙ closing-front 13 array ∙ ap (without_closing 13) (all ∙ text-units o (replicate 40 0) whole refl)
+
+pub returns-in_err-units : goal.returns-in_err-units
+returns-in_err-units c =
+    let a = c.args in
+    let r = read-stored a.letters a.octets.now a.out.now c.requires.0 c.requires.1 c.requires.2 _ (run a.octets.now c.lay_units.new.out c.requires.0 c.kept-n.ensures.answer c.lay_units.ensures.buffer) in
+    passed (search rules) (ap (behind_letters a.letters) c.in_err-units.ensures.answer ∙ r.0, c.in_err-units.ensures.buffer ∙ r.1)
+
 pub returns : goal.returns
 returns c =
     let a = c.args in
-    let o : List ℕ = a.octets.now in
-    let array : List ℕ = c.lay_units.new.out in
-    let run =
-    ap (λ (n : ℕ). take n array) c.kept-n.ensures.answer
-    ∙ closing-front 13 array
-    ∙ ap (without_closing 13) (c.lay_units.ensures.buffer ∙ text-units o (replicate 40 0) c.requires.0 refl) in
-    let r = read-stored a.letters o a.out.now c.requires.0 c.requires.1 c.requires.2 (take c.kept-n.result array) run in
-    record { answer = c.behind.ensures ∙ ap (behind_letters a.letters) c.store.ensures.answer ∙ r.0; buffer = c.store.ensures.buffer ∙ r.1 }
+    let r = read-stored a.letters a.octets.now a.out.now c.requires.0 c.requires.1 c.requires.2 _ (run a.octets.now c.lay_units.new.out c.requires.0 c.kept-n.ensures.answer c.lay_units.ensures.buffer) in
+    record { answer = ap (behind_letters a.letters) c.in_ok-units.ensures.answer ∙ r.0; buffer = c.in_ok-units.ensures.buffer ∙ r.1 }
