@@ -1,44 +1,36 @@
 -- `codes::look` meets its contract: what is left of the codes answers as all of them do.
 -- Assumes nothing.
-use mathlib.Core.Path.{◌≡◌, sym, ap, ◌∙◌, refl}
+use mathlib.Core.Path.{◌≡◌, sym, ap, ◌∙◌}
 use mathlib.Core.List.{List, ◌∷◌}
 use Prim.Native.Nat.{ℕ, ◌/◌}
 use native.Mathlib.Omega.{arith}
-use lib.Bits.{bit_and, and_mask, mask_lt}
-use Rattle.lists.specs.Lists.{first_place}
-use Rattle.codes.specs.Inner.{unit_behind, septets_down, codes_in, looked}
+use lib.Bits.{bit_and, and_mask}
+use Rattle.codes.specs.Inner.{septets_down, codes_in, looked}
 use Rattle.codes.proofs.Search.{codes-more, looked-here, looked-on}
 use Rattle.codes.proofs.look.Goals as goal
-
-pub loop-left-init : goal.loop-left-init
-loop-left-init c = refl
-
-pub overflow_cast-code : goal.overflow_cast-code
-overflow_cast-code c = record { fits = omega (arith, mask_lt c.loop-left.left 7) }
 
 -- the code that is looked at is the first of those that are left
 first : (left : ℕ) → (left ≡ 0 → ⊥) → codes_in left ≡ bit_and left 0x7f ∷ codes_in (left / 128)
 first left some = codes-more left some ∙ ap (λ (code : ℕ). code ∷ codes_in (left / 128)) (sym (and_mask left 7))
 
-pub returns-then-unit_of-unit : goal.returns-then-unit_of-unit
-returns-then-unit_of-unit c = let args = c.args in
+pub returns-then-table-unit : goal.returns-then-table-unit
+returns-then-table-unit g c f shows =
     let left = c.loop-left.left in
-    sym (looked-here (unit_behind args.escaped) (bit_and left 0x7f) (codes_in (left / 128)) args.unit (sym c.unit_of.ensures ∙ c.if-unit_of-unit.true))
-    ∙ ap (λ (l : List ℕ). looked (unit_behind args.escaped) l args.unit) (sym (first left (λ none. omega (arith, c.loop-left-test.true, none))))
-    ∙ c.loop-left.invariant
-
-pub loop-left-smaller : goal.loop-left-smaller
-loop-left-smaller c = omega (arith, c.loop-left-test.true)
+    let code = bit_and left 0x7f in
+    sym (looked-here f code (codes_in (left / 128)) c.args.unit (sym (shows code c.table.result c.table.ensures) ∙ c.if-table-unit.true))
+    ∙ ap (λ (l : List ℕ). looked f l c.args.unit) (sym (first left (λ none. omega (arith, c.loop-left-test.true, none))))
+    ∙ c.loop-left.invariant f shows
 
 pub loop-left-preserved : goal.loop-left-preserved
-loop-left-preserved c = let args = c.args in
+loop-left-preserved g c f shows =
     let left = c.loop-left.left in
-    sym (looked-on (unit_behind args.escaped) (bit_and left 0x7f) (codes_in (left / 128)) args.unit (λ e. c.if-unit_of-unit.false (c.unit_of.ensures ∙ e)))
-    ∙ ap (λ (l : List ℕ). looked (unit_behind args.escaped) l args.unit) (sym (first left (λ none. omega (arith, c.loop-left-test.true, none))))
-    ∙ c.loop-left.invariant
+    let code = bit_and left 0x7f in
+    sym (looked-on f code (codes_in (left / 128)) c.args.unit (λ e. c.if-table-unit.false (shows code c.table.result c.table.ensures ∙ e)))
+    ∙ ap (λ (l : List ℕ). looked f l c.args.unit) (sym (first left (λ none. omega (arith, c.loop-left-test.true, none))))
+    ∙ c.loop-left.invariant f shows
 
 pub returns : goal.returns
-unfolding looked septets_down first_place
-returns c = let args = c.args in
+unfolding looked septets_down
+returns g c f shows =
     let ended : 0 ≡ c.loop-left.left = omega (arith, c.loop-left-test.false) in
-    ap (λ (n : ℕ). looked (unit_behind args.escaped) (codes_in n) args.unit) ended ∙ c.loop-left.invariant
+    ap (λ (n : ℕ). looked f (codes_in n) c.args.unit) ended ∙ c.loop-left.invariant f shows
