@@ -12,37 +12,32 @@ pub fn read_header(block: [u8; 88]) -> Header
     ensures answer { result ≡ header_of block }
 {
     Header {
-        sequence: pair(block[0], block[1]),
-        identifier: pair(block[2], block[3]),
+        sequence: u16::from_be_bytes([block[0], block[1]]),
+        identifier: u16::from_be_bytes([block[2], block[3]]),
         coding: block[4],
         total: block[5] & 0x0f,
         number: (block[5] >> 4) & 0x0f,
     }
 }
 
-// Two octets as one number, the high octet first.
-fn pair(high: u8, low: u8) -> u16
-    ensures { result ≡ 256 * high + low }
-{
-    256 * (high as u16) + (low as u16)
-}
-
 // The block with a header in front of a page's text. Of the total and the number it takes the low four bits. It refuses nothing.
 pub fn page_block(head: Header, text: [u8; 82]) -> [u8; 88]
     ensures answer { result ≡ block_of head text }
 {
+    let [sequence_high, sequence_low] = head.sequence.to_be_bytes();
+    let [identifier_high, identifier_low] = head.identifier.to_be_bytes();
+    let page = head.total % 16 + 16 * (head.number % 16);
+    let front = [
+        sequence_high,
+        sequence_low,
+        identifier_high,
+        identifier_low,
+        head.coding,
+        page,
+    ];
     let mut block = [0u8; 88];
-    block[0] = (head.sequence / 256) as u8;
-    block[1] = (head.sequence % 256) as u8;
-    block[2] = (head.identifier / 256) as u8;
-    block[3] = (head.identifier % 256) as u8;
-    block[4] = head.coding;
-    block[5] = head.total % 16 + 16 * (head.number % 16);
-    let mut i: usize = 0;
-    while i < 82 {
-        block[6 + i] = text[i];
-        i += 1;
-    }
+    block[..6].copy_from_slice(&front);
+    block[6..].copy_from_slice(&text);
     block
 }
 
@@ -50,14 +45,6 @@ pub fn page_block(head: Header, text: [u8; 82]) -> [u8; 88]
 pub fn block_at(blocks: &[u8], i: usize) -> [u8; 88]
     ensures answer { result ≡ block_or_zeros blocks.now i }
 {
-    let mut block = [0u8; 88];
-    if i < blocks.len() / 88 {
-        let at = 88 * i;
-        let mut j: usize = 0;
-        while j < 88 {
-            block[j] = blocks[at + j];
-            j += 1;
-        }
-    }
-    block
+    let (blocks, _) = blocks.as_chunks::<88>();
+    blocks.get(i).copied().unwrap_or([0u8; 88])
 }

@@ -1,42 +1,29 @@
--- The octets of a block that is there are laid over zeros, one after the other, until none of the zeros is left. Assumes nothing.
-use Prim.Native.Nat.{ℕ, ◌+◌, ◌*◌, ◌/◌, ◌≤◌}
-use mathlib.Core.Path.{◌≡◌, refl, sym, ap, ◌∙◌}
-use mathlib.Core.List.{List}
-use native.Mathlib.Omega.{arith}
+-- The octets as blocks of 88: the one at a place, or zeros past the last. Assumes nothing.
+use Rattle.std.proofs.Common.{◌≡◌, ◌+◌, ◌*◌, ◌/◌, ℕ, length, Bool, List, take, drop, drop-drop, replicate, cond, refl, ◌∙◌, ap, get_or, arith}
+use Prim.Native.Nat.{zero, suc}
+use lib.Dec.{ltb}
 use borrow.Author.Tests.{lt-ltb, le-ltb}
-use lib.ListN.{length, get_or, set, take, drop, replicate, length-drop, drop_of_length-le}
-use lib.Seq.{length-take-le, get_or-take, get_or-drop}
-use Rattle.lists.proofs.Laid.{lay-rest, lay-one, lay-moved, lay-end, laid-full}
-use Rattle.pages.specs.Joined.{block_at}
+use native.Mathlib.Nat.{mul-zero}
+use Rattle.std.specs.Simd.{first_chunks}
+use Rattle.std.specs.Option.{unwrap_or}
 use Rattle.pages.specs.Ordered.{block_or_zeros}
+use Rattle.pages.specs.Joined.{block_at}
 use Rattle.blocks.proofs.block_at.Goals as goal
 
--- a block that is there is whole
-whole : (o : List ℕ) (i : ℕ) → 88 * i + 88 ≤ length o → length (take 88 (drop (88 * i) o)) ≡ 88
-whole o i h = length-take-le 88 (drop (88 * i) o) (omega (arith, length-drop (88 * i) o))
+ltb-more : (i k : ℕ) → ltb i k ≡ ltb (suc i) (suc k)
+ltb-more i k = grind arith
 
-pub loop-j-preserved : goal.loop-j-preserved
-loop-j-preserved c = let inv = c.loop-j.invariant in
-    let o : List ℕ = c.args.blocks.now in
-    let i : ℕ = c.args.i in
-    let j : ℕ = c.loop-j.j in
-    let b : List ℕ = take 88 (drop (88 * i) o) in
-    let long : length b ≡ 88 = whole o i inv.1 in
-    let here : get_or b j 0 ≡ get_or o (88 * i + j) 0 = get_or-take 88 (drop (88 * i) o) j 0 c.loop-j-test.true ∙ get_or-drop (88 * i) o j 0 in
-    (omega arith, inv.1, lay-moved (lay-one (lay-rest b j inv.2 (omega (arith, long))) (omega (arith, long))) refl (ap (set c.loop-j.block j) (sym here)))
+-- the piece at a place, of k pieces of n
+piece : (n k : ℕ) (xs : List ℕ) (i : ℕ) (d : List ℕ) → get_or (first_chunks n k xs) i d ≡ cond (ltb i k) (take n (drop (n * i) xs)) d
+piece n zero xs i d = rw (le-ltb i 0 (omega arith)) refl
+piece n (suc k) xs zero d = let z : n * 0 ≡ 0 = mul-zero n in simp (z, lt-ltb 0 (suc k) (omega arith))
+piece n (suc k) xs (suc i) d =
+    let e : n + n * i ≡ n * suc i = omega arith in
+    piece n k (drop n xs) i d ∙ ap (λ (b : Bool). cond b (take n (drop (n * i) (drop n xs))) d) (ltb-more i k) ∙ ap (λ (l : List ℕ). cond (ltb (suc i) (suc k)) (take n l) d) (drop-drop (n * i) n xs ∙ ap (λ (m : ℕ). drop m xs) e)
 
-pub returns-after-loop-j : goal.returns-after-loop-j
+pub returns : goal.returns
 unfolding block_or_zeros block_at
-returns-after-loop-j c = record {
-  answer = let inv = c.loop-j.invariant in
-      let o : List ℕ = c.args.blocks.now in
-      let i : ℕ = c.args.i in
-      let long : length (take 88 (drop (88 * i) o)) ≡ 88 = whole o i inv.1 in
-      lay-end inv.2 (drop_of_length-le _ {i = c.loop-j.j} (omega (arith, long, c.loop-j-test.false)))
-      ∙ laid-full (take 88 (drop (88 * i) o)) (replicate 88 0) (omega (arith, long))
-      ∙ sym (simp (lt-ltb i (length o / 88) c.if-i-blocks.true));
+returns c = record {
+  answer = c.unwrap_or.ensures ∙ ap (λ (o : _). unwrap_or o (replicate 88 0)) c.copied.ensures ∙ c.get.ensures.lookup.4 (omega arith) (replicate 88 0)
+      ∙ ap (λ (l : _). get_or l c.args.i (replicate 88 0)) c.as_chunks.ensures.front ∙ piece 88 (length c.args.blocks.now / 88) c.args.blocks.now c.args.i (replicate 88 0);
 }
-
-pub returns-else-i-blocks : goal.returns-else-i-blocks
-unfolding block_or_zeros
-returns-else-i-blocks c = record { answer = sym (simp (le-ltb _ _ c.if-i-blocks.false)) }

@@ -1,10 +1,6 @@
 -- The masks take the bits that the definition gathers. Assumes nothing.
-use Prim.Native.Nat.{ℕ, ◌/◌, ◌%◌}
-use mathlib.Core.Path.{◌≡◌, sym, ap, ◌∙◌}
-use mathlib.Core.List.{List}
-use native.Mathlib.Omega.{arith}
-use lib.Bits.{bit_and, and_mask}
-use lib.ListN.{get_or}
+use Rattle.std.proofs.Common.{◌≡◌, ℕ, ◌+◌, ◌*◌, ◌/◌, ◌%◌, List, arith, ◌∙◌, sym, ap, get_or, bit_and}
+use lib.Bits.{and_mask}
 use Rattle.lists.specs.Bits.{bits_of}
 use Rattle.lists.proofs.Bits.{bits-number}
 use Rattle.pages.specs.Blocks.{header_of}
@@ -21,5 +17,7 @@ pub returns : goal.returns
 unfolding header_of
 returns c = record {
   answer = let b : List ℕ = c.args.block in
-      simp (c.pair.ensures, c.pair-2.ensures, low (get_or b 5 0), high (get_or b 5 0));
+      let s : c.from_be_bytes.result ≡ 256 * get_or b 0 0 + get_or b 1 0 = omega (arith, c.from_be_bytes.ensures) in
+      let i : c.from_be_bytes-2.result ≡ 256 * get_or b 2 0 + get_or b 3 0 = omega (arith, c.from_be_bytes-2.ensures) in
+      simp (s, i, low (get_or b 5 0), high (get_or b 5 0));
 }
