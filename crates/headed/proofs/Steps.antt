@@ -1,21 +1,20 @@
--- Elements gone through one by one: what the octets from a place on are, and what reading them answers, with what was found before that place.
+-- Elements gone through one by one: what the octets that are left are, and what reading them answers, with what was found before them.
 -- Assumes nothing.
 --   chosen t e x         the definition's choice at an element e with x behind it: broken where t is true
 --   elements-none, elements-lone, elements-past, elements-next   what octets are by their first element
---   Scanned              reading goes on from a place, with what was found before it
---   scan_begins, scan-lone, scan-past, scan-other, scan-wrong, scan-numbers, scan-ends   one step of it, by what stands at the place
+--   Scanned              reading goes on at the octets that are left, with what was found before them
+--   scan-ends, scan-lone, scan-past, scan-other, scan-wrong, scan-numbers   one step of it, by what these begin with
 --   header-short, header-body   what a header is read as, by its length octet
 --   header-fits, header-told, header-refusal   what an answer tells of the octets
 use mathlib.Core.Path.{◌≡◌, refl, sym, ap, ◌∙◌}
 use mathlib.Core.Bool.{Bool, true, false, not}
 use mathlib.Core.List.{List, [], ◌∷◌}
-use Prim.Native.Nat.{ℕ, zero, suc, ◌+◌, ◌-◌, ◌≤◌, ◌<◌}
-use native.Mathlib.Numerals.{add-one}
+use Prim.Native.Nat.{ℕ, zero, suc, ◌+◌, ◌≤◌, ◌<◌}
 use native.Mathlib.Omega.{arith}
 use borrow.Author.Tests.{lt-ltb, le-ltb, le-leb, lt-leb, leb-true, eq-eqb, ne_eqb}
 use lib.Dec.{ltb, leb}
-use lib.ListN.{length, get_or, take, drop, length-drop, drop_of_length-le}
-use lib.Seq.{drop-cons, drop-drop, length-take-le, get_or-take, get_or-drop}
+use lib.ListN.{length, get_or, take, drop, length-drop}
+use lib.Seq.{length-take-le}
 use Rattle.words.specs.declared.Refusal.{Refusal}
 use Rattle.words.specs.declared.Refusal.TheVariants.{WrongHeader}
 use Rattle.words.specs.Judging.{when, verdict, settle}
@@ -29,6 +28,10 @@ use Rattle.std.specs.Prelude.{Option, Err, Some, None}
 use Rattle.headed.specs.Successes.{ok_header_read}
 
 -- ---- what octets are
+
+length-zero : (o : List ℕ) → length o ≡ 0 → o ≡ []
+length-zero [] h = refl
+length-zero (x ∷ o) h = absurd (omega arith)
 
 -- the definition's choice between the two
 abbrev pub chosen : Bool → Element → Elements → Elements
@@ -85,75 +88,44 @@ module _ (size : ℕ) (found : Option Numbers) (e : Element) where
   numbers-read broken i l = refl
   numbers-read (whole es) i l = simp (eq-eqb e.identifier concatenation i, eq-eqb (length e.octets) 3 l)
 
--- ---- at a place
+-- ---- at an element
 
 module _ (size : ℕ) (body : List ℕ) where
-  -- what stands at a place that has two octets
-  two_at : (at : ℕ) → at + 2 ≤ length body → drop at body ≡ get_or body at 0 ∷ get_or body (at + 1) 0 ∷ drop (at + 2) body
-  two_at at h =
-      let more : suc (at + 1) ≡ at + 2 = omega arith in
-      drop-cons body at 0 (omega arith)
-      ∙ ap (λ (l : List ℕ). get_or body at 0 ∷ l)
-      (ap (λ (k : ℕ). drop k body) (sym (add-one at)) ∙ drop-cons body (at + 1) 0 (omega arith) ∙ ap (λ (k : ℕ). get_or body (at + 1) 0 ∷ drop k body) more)
+  abbrev pub Scanned : List ℕ → Option Numbers → Type 0
+  Scanned rest found = body_reads size found (elements_of rest) ≡ body_reads size None (elements_of body)
 
-  abbrev pub Scanned : ℕ → Option Numbers → Type 0
-  Scanned at found = body_reads size found (elements_of (drop at body)) ≡ body_reads size None (elements_of body)
+  module _ (rest : List ℕ) (found : Option Numbers) (s : Scanned rest found) where
+    pub scan-ends : length rest ≡ 0 → ok_header_read size found ≡ body_reads size None (elements_of body)
+    unfolding wrong_length last_numbers verdict
+    scan-ends h = sym (ap (λ (o : List ℕ). body_reads size found (elements_of o)) (length-zero rest h) ∙ ap (body_reads size found) elements-none) ∙ s
 
-  pub scan_begins : Scanned 0 None
-  scan_begins = refl
+    pub scan-lone : (i : ℕ) (after : List ℕ) → rest ≡ i ∷ after → length after ≡ 0 → Err WrongHeader ≡ body_reads size None (elements_of body)
+    scan-lone i after e h =
+        sym (ap (λ (o : List ℕ). body_reads size found (elements_of o)) (e ∙ ap (λ (o : List ℕ). i ∷ o) (length-zero after h)) ∙ ap (body_reads size found) (elements-lone i)) ∙ s
 
-  pub scan-ends : (at : ℕ) (found : Option Numbers) → Scanned at found → length body ≤ at → body_reads size None (elements_of body) ≡ ok_header_read size found
-  unfolding wrong_length last_numbers verdict
-  scan-ends at found s h = sym s ∙ ap (λ (o : List ℕ). body_reads size found (elements_of o)) (drop_of_length-le body h) ∙ ap (body_reads size found) elements-none
+    module _ (i n : ℕ) (after : List ℕ) (e : rest ≡ i ∷ n ∷ after) where
+      pub scan-past : length after < n → Err WrongHeader ≡ body_reads size None (elements_of body)
+      scan-past h = sym (ap (λ (o : List ℕ). body_reads size found (elements_of o)) e ∙ ap (body_reads size found) (elements-past i n after h)) ∙ s
 
-  pub scan-lone : (at : ℕ) (found : Option Numbers) → Scanned at found → at < length body → length body - at < 2 → body_reads size None (elements_of body) ≡ Err WrongHeader
-  scan-lone at found s h l =
-      sym s
-      ∙ ap (λ (o : List ℕ). body_reads size found (elements_of o)) (drop-cons body at 0 h ∙ ap (λ (o : List ℕ). get_or body at 0 ∷ o) (drop_of_length-le body {i = suc at} (omega arith)))
-      ∙ ap (body_reads size found) (elements-lone (get_or body at 0))
+      module _ (h : n ≤ length after) (told : List ℕ) (d : told ≡ take n after) where
+        abbrev here : Element
+        here = record { identifier = i; octets = told }
 
-  pub scan-past : (at : ℕ) (found : Option Numbers) → Scanned at found → at + 2 ≤ length body → length body - (at + 2) < get_or body (at + 1) 0
-      → body_reads size None (elements_of body) ≡ Err WrongHeader
-  scan-past at found s h l =
-      sym s
-      ∙ ap (λ (o : List ℕ). body_reads size found (elements_of o)) (two_at at h)
-      ∙ ap (body_reads size found) (elements-past (get_or body at 0) (get_or body (at + 1) 0) (drop (at + 2) body) (omega (arith, length-drop (at + 2) body)))
+        here-next : elements_of rest ≡ before here (elements_of (drop n after))
+        here-next = ap elements_of e ∙ elements-next i n after h ∙ ap (λ (l : List ℕ). before (record { identifier = i; octets = l }) (elements_of (drop n after))) (sym d)
 
-  module _ (at : ℕ) (found : Option Numbers) (s : Scanned at found) (h : at + 2 ≤ length body) (l : get_or body (at + 1) 0 ≤ length body - (at + 2)) where
-    abbrev here : Element
-    here = record { identifier = get_or body at 0; octets = take (get_or body (at + 1) 0) (drop (at + 2) body) }
+        pub scan-wrong : i ≡ 0 → (length told ≡ 3 → ⊥) → Err WrongHeader ≡ body_reads size None (elements_of body)
+        scan-wrong o l = sym (ap (body_reads size found) here-next ∙ wrong-reads size found here (elements_of (drop n after)) o l) ∙ s
 
-    abbrev next : List ℕ
-    next = drop (at + 2 + get_or body (at + 1) 0) body
+        module _ (next : List ℕ) (b : next ≡ drop n after) where
+          before-next : body_reads size found (before here (elements_of next)) ≡ body_reads size None (elements_of body)
+          before-next = ap (λ (l : List ℕ). body_reads size found (before here (elements_of l))) b ∙ sym (ap (body_reads size found) here-next) ∙ s
 
-    here-next : elements_of (drop at body) ≡ before here (elements_of next)
-    here-next =
-        ap elements_of (two_at at h)
-        ∙ elements-next (get_or body at 0) (get_or body (at + 1) 0) (drop (at + 2) body) (omega (arith, length-drop (at + 2) body))
-        ∙ ap (λ (o : List ℕ). before here (elements_of o)) (drop-drop (get_or body (at + 1) 0) (at + 2) body)
+          pub scan-other : (i ≡ 0 → ⊥) → Scanned next found
+          scan-other o = sym (other-reads size found here (elements_of next) o) ∙ before-next
 
-    here-length : length here.octets ≡ get_or body (at + 1) 0
-    here-length = length-take-le (get_or body (at + 1) 0) (drop (at + 2) body) (omega (arith, length-drop (at + 2) body))
-
-    pub scan-other : (get_or body at 0 ≡ 0 → ⊥) → Scanned (at + 2 + get_or body (at + 1) 0) found
-    scan-other d = sym (other-reads size found here (elements_of next) d) ∙ sym (ap (body_reads size found) here-next) ∙ s
-
-    pub scan-wrong : get_or body at 0 ≡ 0 → (get_or body (at + 1) 0 ≡ 3 → ⊥) → body_reads size None (elements_of body) ≡ Err WrongHeader
-    scan-wrong i d = sym s ∙ ap (body_reads size found) here-next ∙ wrong-reads size found here (elements_of next) i (λ e. d (sym here-length ∙ e))
-
-    here-at : (k : ℕ) → k < get_or body (at + 1) 0 → get_or here.octets k 0 ≡ get_or body (at + 2 + k) 0
-    here-at k m = get_or-take (get_or body (at + 1) 0) (drop (at + 2) body) k 0 m ∙ get_or-drop (at + 2) body k 0
-
-    pub scan-numbers : get_or body at 0 ≡ 0 → get_or body (at + 1) 0 ≡ 3 → (n : Numbers)
-        → n ≡ record { reference = get_or body (at + 2) 0; total = get_or body (at + 2 + 1) 0; number = get_or body (at + 2 + 2) 0 }
-        → Scanned (at + 2 + get_or body (at + 1) 0) (Some n)
-    scan-numbers i e n same =
-        let first : get_or here.octets 0 0 ≡ get_or body (at + 2) 0 = here-at 0 (omega arith) ∙ ap (λ (k : ℕ). get_or body k 0) (omega arith) in
-        let told : numbers_of here ≡ n = simp (first, here-at 1 (omega arith), here-at 2 (omega arith)) (sym same) in
-        ap (λ (m : Numbers). body_reads size (Some m) (elements_of next)) (sym told)
-        ∙ sym (numbers-read size found here (elements_of next) i (here-length ∙ e))
-        ∙ sym (ap (body_reads size found) here-next)
-        ∙ s
+          pub scan-numbers : i ≡ 0 → length told ≡ 3 → Scanned next (Some (numbers_of here))
+          scan-numbers o l = sym (numbers-read size found here (elements_of next) o l) ∙ before-next
 
 -- ---- a header
 

@@ -3,7 +3,7 @@
 
 ghost use Rattle.std.specs.Prelude.{◌≡◌, List, ◌+◌, ◌≤◌, length};
 ghost use Rattle.headed.specs.Header.{elements_of, header_reads, concatenation_header, septets_over};
-ghost use Rattle.headed.specs.Inner.{found_as, body_reads};
+ghost use Rattle.headed.specs.Inner.{body_reads};
 
 use headed::{HeaderRead, Numbers};
 use words::Refusal;
@@ -29,50 +29,31 @@ fn read_elements(body: &[u8]) -> Result<HeaderRead, Refusal>
     requires { length body.now ≤ 255 }
     ensures { result ≡ body_reads (length body.now + 1) None (elements_of body.now) }
 {
-    let len = body.len();
-    let mut some = false;
-    let mut numbers = Numbers {
-        reference: 0,
-        total: 0,
-        number: 0,
-    };
-    let mut at: usize = 0;
-    while at < len {
-        if len - at < 2 {
+    let mut concatenation = None;
+    let mut rest = body;
+    while let Some((&identifier, behind)) = rest.split_first() {
+        let Some((&n, behind)) = behind.split_first() else {
             return Err(Refusal::WrongHeader);
-        }
-        let data = at + 2;
-        let n = body[at + 1] as usize;
-        if len - data < n {
+        };
+        let Some((data, next)) = behind.split_at_checked(n as usize) else {
             return Err(Refusal::WrongHeader);
-        }
-        if body[at] == 0 {
-            if n != 3 {
+        };
+        if identifier == 0 {
+            let [reference, total, number] = data else {
                 return Err(Refusal::WrongHeader);
-            }
-            some = true;
-            numbers = Numbers {
-                reference: body[data],
-                total: body[data + 1],
-                number: body[data + 2],
             };
+            concatenation = Some(Numbers {
+                reference: *reference,
+                total: *total,
+                number: *number,
+            });
         }
-        at = data + n;
+        rest = next;
     }
     Ok(HeaderRead {
-        octets: len + 1,
-        concatenation: found(some, numbers),
+        octets: body.len() + 1,
+        concatenation,
     })
-}
-
-// The numbers that were found, or none.
-fn found(some: bool, numbers: Numbers) -> Option<Numbers>
-    ensures { result ≡ found_as some numbers }
-{
-    if some {
-        return Some(numbers);
-    }
-    None
 }
 
 // The header that gives a part its numbers and says nothing else. It refuses nothing.

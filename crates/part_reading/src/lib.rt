@@ -4,10 +4,9 @@
 ghost use Rattle.std.specs.Prelude.{◌≡◌, true, false, cond, ◌≤◌, ltb, length};
 ghost use Rattle.headed.specs.Header.{septets_over};
 ghost use Rattle.parted.specs.Read.{count_fits, part_reads, part_read_leaves};
-ghost use Rattle.parted.specs.Inner.{held_reads, held_read_leaves, behind_reads, behind_read_leaves, tail_reads, tail_leaves, with_reading, with_numbers};
+ghost use Rattle.parted.specs.Inner.{held_reads, held_read_leaves, behind_reads, behind_read_leaves, tail_reads, tail_leaves};
 
-use coding::{Held, Reading};
-use headed::{HeaderRead, Numbers};
+use coding::Reading;
 use parted::{PartRead, TextRead};
 use words::{Refusal, Service};
 
@@ -16,14 +15,18 @@ use words::{Refusal, Service};
 // Refuses compressed text (1), a coding that holds no text (2), octets that are not what the count asks (4), a header that is longer than the octets
 // or, in septets, than the count, or whose elements are wrong (12), an odd octet of UCS2 behind the header (4), a short buffer (7).
 // Stores the units at the front of out; a refusal stores nothing.
-pub fn read_part(coding: u8, count: usize, marked: bool, octets: &[u8], out: &mut [u16]) -> Result<PartRead, Refusal>
+pub fn read_part(
+    coding: u8,
+    count: usize,
+    marked: bool,
+    octets: &[u8],
+    out: &mut [u16],
+) -> Result<PartRead, Refusal>
     ensures answer { result ≡ part_reads coding marked count octets.now (length out.old) }
     ensures buffer { out.new ≡ part_read_leaves coding marked count octets.now out.old }
 {
-    match coding::read_octet(Service::ShortMessage, coding) {
-        Ok(reading) => read_held(reading, count, marked, octets, out),
-        Err(refusal) => Err(refusal),
-    }
+    let reading = coding::read_octet(Service::ShortMessage, coding)?;
+    read_held(reading, count, marked, octets, out)
 }
 
 // The same behind the coding octet.
@@ -37,32 +40,23 @@ fn read_held(
     ensures answer { result ≡ held_reads reading marked count octets.now (length out.old) }
     ensures buffer { out.new ≡ held_read_leaves reading marked count octets.now out.old }
 {
-    match reading.holds(Service::ShortMessage) {
-        Ok(Held::Septets) => shown(reading, read_behind(false, count, marked, octets, out)),
-        Ok(Held::Units) => shown(reading, read_behind(true, count, marked, octets, out)),
-        Err(refusal) => Err(refusal),
-    }
-}
-
-// The answer of reading text, with the reading.
-fn shown(reading: Reading, answer: Result<TextRead, Refusal>) -> Result<PartRead, Refusal>
-    ensures { result ≡ with_reading reading answer }
-{
-    match answer {
-        Ok(TextRead {
-            units,
-            concatenation,
-        }) => Ok(PartRead {
-            units: units,
-            reading: reading,
-            concatenation: concatenation,
-        }),
-        Err(refusal) => Err(refusal),
-    }
+    let held = reading.holds(Service::ShortMessage)?;
+    let text = read_behind(held.is_ucs2(), count, marked, octets, out)?;
+    Ok(PartRead {
+        units: text.units,
+        reading,
+        concatenation: text.concatenation,
+    })
 }
 
 // Reads the text of a message by itself: 4, 12, 4, 7.
-fn read_behind(ucs2: bool, count: usize, marked: bool, octets: &[u8], out: &mut [u16]) -> Result<TextRead, Refusal>
+fn read_behind(
+    ucs2: bool,
+    count: usize,
+    marked: bool,
+    octets: &[u8],
+    out: &mut [u16],
+) -> Result<TextRead, Refusal>
     ensures answer { result ≡ behind_reads ucs2 marked count octets.now (length out.old) }
     ensures buffer { out.new ≡ behind_read_leaves ucs2 marked count octets.now out.old }
 {
@@ -70,37 +64,29 @@ fn read_behind(ucs2: bool, count: usize, marked: bool, octets: &[u8], out: &mut 
         return Err(Refusal::WrongLength);
     }
     if !marked {
-        return numbered(
-            None,
-            read_tail(ucs2, 0, 0, count, octets, out),
-        );
+        let units = read_tail(ucs2, 0, 0, count, octets, out)?;
+        return Ok(TextRead {
+            units,
+            concatenation: None,
+        });
     }
-    match header::read_header(octets) {
-        Ok(HeaderRead {
-            octets: size,
-            concatenation,
-        }) => {
-            let over = header::septets_over(octets[0]);
-            if past_count(ucs2, over, count) {
-                return Err(Refusal::WrongHeader);
-            }
-            numbered(
-                concatenation,
-                read_tail(ucs2, size, over, count, octets, out),
-            )
-        }
-        Err(refusal) => Err(refusal),
+    let header = header::read_header(octets)?;
+    let over = header::septets_over(octets[0]);
+    if past_count(ucs2, over, count) {
+        return Err(Refusal::WrongHeader);
     }
+    let units = read_tail(ucs2, header.octets, over, count, octets, out)?;
+    Ok(TextRead {
+        units,
+        concatenation: header.concatenation,
+    })
 }
 
 // Whether a header takes more septets than the count: of UCS2 the octets are the count, and it is no longer than those.
 fn past_count(ucs2: bool, over: usize, count: usize) -> bool
     ensures { result ≡ cond ucs2 false (ltb count over) }
 {
-    if ucs2 {
-        return false;
-    }
-    count < over
+    !ucs2 && count < over
 }
 
 // Whether so many octets are what the count asks.
@@ -108,21 +94,9 @@ fn count_fits(ucs2: bool, octets: usize, count: usize) -> bool
     ensures { result ≡ count_fits ucs2 octets count }
 {
     if ucs2 {
-        return octets <= 140 && count == octets;
-    }
-    closing::fits(Service::ShortMessage, octets, count)
-}
-
-// The answer of storing the text, with the numbers of the part.
-fn numbered(concatenation: Option<Numbers>, answer: Result<usize, Refusal>) -> Result<TextRead, Refusal>
-    ensures { result ≡ with_numbers concatenation answer }
-{
-    match answer {
-        Ok(units) => Ok(TextRead {
-            units: units,
-            concatenation: concatenation,
-        }),
-        Err(refusal) => Err(refusal),
+        octets <= 140 && count == octets
+    } else {
+        closing::fits(Service::ShortMessage, octets, count)
     }
 }
 
@@ -163,7 +137,13 @@ fn read_units(size: usize, octets: &[u8], out: &mut [u16]) -> Result<usize, Refu
 }
 
 // 7-bit text: the octets unpacked into septets of our own, and those behind the header read by the alphabet.
-fn read_septets(size: usize, over: usize, count: usize, octets: &[u8], out: &mut [u16]) -> Result<usize, Refusal>
+fn read_septets(
+    size: usize,
+    over: usize,
+    count: usize,
+    octets: &[u8],
+    out: &mut [u16],
+) -> Result<usize, Refusal>
     requires { (count_fits false (length octets.now) count ≡ true) × (over ≡ septets_over size) × (over ≤ count) }
     ensures answer { result ≡ tail_reads false size count octets.now (length out.old) }
     ensures buffer { out.new ≡ tail_leaves false size count octets.now out.old }

@@ -11,6 +11,6 @@ pub returns-else-octets-le140 : goal.returns-else-octets-le140
 unfolding count_fits
 returns-else-octets-le140 c = simp (c.if-ucs2.true, lt-leb _ _ c.if-octets-le140.false)
 
-pub returns : goal.returns
+pub returns-else-ucs2 : goal.returns-else-ucs2
 unfolding count_fits
-returns c = simp c.if-ucs2.false c.fits.ensures.answer
+returns-else-ucs2 c = simp c.if-ucs2.false c.fits.ensures.answer
