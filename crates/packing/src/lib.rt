@@ -101,10 +101,10 @@ pub fn pack_page(page: [u8; 93], out: &mut [u8]) -> Result<usize, Refusal>
 fn counted(stored: Result<usize, Refusal>, count: usize) -> Result<Packed, Refusal>
     ensures { result ≡ counted_as stored count }
 {
-    match stored {
-        Ok(octets) => Ok(Packed { octets, count }),
-        Err(refusal) => Err(refusal),
-    }
+    Ok(Packed {
+        octets: stored?,
+        count,
+    })
 }
 
 // Unpacks the septets that octets hold under a service, filling dropped: how many there are.
@@ -120,13 +120,9 @@ pub fn unpack(
     ensures buffer { out.new ≡ unpack_leaves service octets.now count out.old }
 {
     let mut septets = [0u8; 184];
-    match septets::unpack_whole(service, octets, count, &mut septets) {
-        Ok(all) => {
-            let n = closing::text_length(service, &septets[..all]);
-            septets::store(&septets, n, out)
-        }
-        Err(refusal) => Err(refusal),
-    }
+    let all = septets::unpack_whole(service, octets, count, &mut septets)?;
+    let n = closing::text_length(service, &septets[..all]);
+    septets::store(&septets[..n], out)
 }
 
 // Unpacks all septets that octets hold under a service, the closing ones that unpack drops too: how many there are.

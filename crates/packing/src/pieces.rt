@@ -1,5 +1,5 @@
 // Pieces of one width into pieces of another, through one number of 64 bits: eight septets are seven octets.
-ghost use Rattle.std.specs.Prelude.{◌≡◌, ◌+◌, ◌*◌, ◌^◌, ◌≤◌, ◌<◌, ◌++◌, length, take, drop};
+ghost use Rattle.std.specs.Prelude.{◌≡◌, ℕ, ◌+◌, ◌*◌, ◌^◌, ◌≤◌, ◌<◌, ◌++◌, length, take, drop};
 ghost use Rattle.lists.specs.Lists.{laid};
 ghost use Rattle.stream.specs.Digits.{value, digits, low_of};
 
@@ -104,51 +104,71 @@ pub(crate) fn low_eight(septets: &[u8], at: usize) -> u64
     squeeze(join_eight(septets, at))
 }
 
-// Eight septets from from on as seven octets from to on.
-fn pack_group(septets: &[u8], from: usize, out: &mut [u8], to: usize)
-    requires { (from + 8 ≤ length septets.now) × (to + 7 ≤ length out.old) }
-    ensures { out.new ≡ take to out.old ++ digits 256 7 (value 128 (take 8 (drop from (low_of 7 septets.now)))) ++ drop (to + 7) out.old }
-{
-    let v = low_eight(septets, from);
-    put_seven(v, out, to);
+// A way to cut a group anew: TAKES pieces of GIVES bits are GIVES pieces of TAKES bits. Of a piece its low bits are taken.
+pub(crate) trait Regroup {
+    const TAKES: usize;
+
+    const GIVES: usize;
+
+    ghost TAKES: { ℕ };
+
+    ghost GIVES: { ℕ };
+
+    // The group from from on, from to on of out.
+    fn group(pieces: &[u8], from: usize, out: &mut [u8], to: usize)
+        requires { (from + TAKES ≤ length pieces.now) × (to + GIVES ≤ length out.old) }
+        ensures { out.new ≡ take to out.old ++ digits (2 ^ TAKES) GIVES (value (2 ^ GIVES) (take TAKES (drop from (low_of GIVES pieces.now)))) ++ drop (to + GIVES) out.old };
 }
 
-// Seven octets from from on as eight septets from to on. Joined as eight, where eight are there, the compiler loads
-// them in fewer pieces; the last of them is dropped.
-fn unpack_group(octets: &[u8], from: usize, out: &mut [u8], to: usize)
-    requires { (from + 7 ≤ length octets.now) × (to + 8 ≤ length out.old) }
-    ensures { out.new ≡ take to out.old ++ digits 128 8 (value 256 (take 7 (drop from (low_of 8 octets.now)))) ++ drop (to + 8) out.old }
-{
-    let v = if from + 8 <= octets.len() {
-        join_eight(octets, from)
-    } else {
-        join_seven(octets, from)
-    };
-    let x = stretch(v);
-    put_eight(x, out, to);
-}
+// Eight septets are seven octets.
+pub(crate) struct Pack;
 
-// u pieces of w bits from from on as w pieces of u bits from to on.
-fn recut_group(pieces: &[u8], w: usize, from: usize, out: &mut [u8], u: usize, to: usize)
-    requires { (from + u ≤ length pieces.now) × (to + w ≤ length out.old) × (7 ≤ w) × (w + u ≡ 15) × (w ≤ 8) }
-    ensures { out.new ≡ take to out.old ++ digits (2 ^ u) w (value (2 ^ w) (take u (drop from (low_of w pieces.now)))) ++ drop (to + w) out.old }
-{
-    if w == 7 {
-        pack_group(pieces, from, out, to);
-    } else {
-        unpack_group(pieces, from, out, to);
+impl Regroup for Pack {
+    const TAKES: usize = 8;
+
+    const GIVES: usize = 7;
+
+    ghost TAKES = { 8 };
+
+    ghost GIVES = { 7 };
+
+    fn group(septets: &[u8], from: usize, out: &mut [u8], to: usize) {
+        let v = low_eight(septets, from);
+        put_seven(v, out, to);
     }
 }
 
-// Whole groups: eight septets to seven octets or back, u pieces of w bits to w pieces of u bits. Of a piece its low w bits are taken.
-pub(crate) fn recut(pieces: &[u8], w: usize, groups: usize, out: &mut [u8], u: usize)
-    requires { (u * groups ≤ length pieces.now) × (w * groups ≤ length out.old) × (7 ≤ w) × (w + u ≡ 15) × (w ≤ 8) }
-    ensures { out.new ≡ laid (digits (2 ^ u) (w * groups) (value (2 ^ w) (take (u * groups) (low_of w pieces.now)))) out.old }
+// Seven octets are eight septets. Joined as eight octets, where eight are there, the compiler loads them in fewer pieces; the last of them is
+// dropped.
+pub(crate) struct Unpack;
+
+impl Regroup for Unpack {
+    const TAKES: usize = 7;
+
+    const GIVES: usize = 8;
+
+    ghost TAKES = { 7 };
+
+    ghost GIVES = { 8 };
+
+    fn group(octets: &[u8], from: usize, out: &mut [u8], to: usize) {
+        let v = if from + 8 <= octets.len() {
+            join_eight(octets, from)
+        } else {
+            join_seven(octets, from)
+        };
+        let x = stretch(v);
+        put_eight(x, out, to);
+    }
+}
+
+// Whole groups.
+pub(crate) fn recut<R: Regroup>(pieces: &[u8], groups: usize, out: &mut [u8])
+    requires { (R.TAKES * groups ≤ length pieces.now) × (R.GIVES * groups ≤ length out.old) }
+    ensures { out.new ≡ laid (digits (2 ^ R.TAKES) (R.GIVES * groups) (value (2 ^ R.GIVES) (take (R.TAKES * groups) (low_of R.GIVES pieces.now)))) out.old }
 {
-    let mut g: usize = 0;
-    while g < groups {
-        recut_group(pieces, w, u * g, out, u, w * g);
-        g += 1;
+    for g in 0..groups {
+        R::group(pieces, R::TAKES * g, out, R::GIVES * g);
     }
 }
 

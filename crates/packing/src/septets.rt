@@ -9,7 +9,7 @@ ghost use Rattle.stream.specs.ArrayCalls.{all_answers, all_leaves, held_count};
 ghost use Rattle.stream.specs.Inner.{is_page};
 ghost use Rattle.stream.specs.Storing.{given_answers, given_leaves};
 
-use crate::pieces::{low_eight, put_end, recut, take_end};
+use crate::pieces::{Pack, Unpack, low_eight, put_end, recut, take_end};
 use closing::fits;
 use groups::{left_over, octets_for, squeeze, stretch};
 use words::{Refusal, Service};
@@ -62,7 +62,7 @@ pub(crate) fn send(septets: &[u8], cr: bool, out: &mut [u8]) -> Result<usize, Re
         return Err(Refusal::NoRoom);
     }
     let groups = n / 8;
-    recut(septets, 7, groups, out, 8);
+    recut::<Pack>(septets, groups, out);
     let done = 7 * groups;
     if done < octets {
         let v = squeeze(take_end(septets, 8 * groups, n % 8));
@@ -88,7 +88,7 @@ pub(crate) fn send_front(
         return Err(Refusal::NoRoom);
     }
     let groups = n / 8;
-    recut(septets, 7, groups, out, 8);
+    recut::<Pack>(septets, groups, out);
     let done = 7 * groups;
     if done < octets {
         let v = low_eight(septets, 8 * groups);
@@ -117,7 +117,7 @@ fn unpack_into(octets: &[u8], n: usize, out: &mut [u8])
     ensures { out.new ≡ laid (unpacked n octets.now) out.old }
 {
     let groups = n / 8;
-    recut(octets, 8, groups, out, 7);
+    recut::<Unpack>(octets, groups, out);
     let rest = n % 8;
     if 0 < rest {
         let v = take_end(octets, 7 * groups, rest);
@@ -146,19 +146,15 @@ pub(crate) fn unpack_whole(
     Ok(all)
 }
 
-// Stores the first n elements of an array.
-pub(crate) fn store(array: &[u8; 184], n: usize, out: &mut [u8]) -> Result<usize, Refusal>
-    requires { (n ≤ 184) × (length array.now ≡ 184) }
-    ensures answer { result ≡ given_answers (take n array.now) (length out.old) }
-    ensures buffer { out.new ≡ given_leaves (take n array.now) out.old }
+// Stores septets.
+pub(crate) fn store(septets: &[u8], out: &mut [u8]) -> Result<usize, Refusal>
+    ensures answer { result ≡ given_answers septets.now (length out.old) }
+    ensures buffer { out.new ≡ given_leaves septets.now out.old }
 {
+    let n = septets.len();
     if out.len() < n {
         return Err(Refusal::NoRoom);
     }
-    let mut i: usize = 0;
-    while i < n {
-        out[i] = array[i];
-        i += 1;
-    }
+    out[..n].copy_from_slice(septets);
     Ok(n)
 }

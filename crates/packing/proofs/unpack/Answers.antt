@@ -4,6 +4,7 @@ use mathlib.Core.Path.{◌≡◌, refl, sym, ap, ◌∙◌, subst}
 use mathlib.Core.Bool.{true}
 use mathlib.Core.List.{List}
 use native.Mathlib.Omega.{arith}
+use borrow.Author.Rules.{rules}
 use lib.ListN.{length, take, replicate, length-replicate}
 use lib.Seq.{length-take-le}
 use Rattle.words.specs.declared.Service.{Service}
@@ -44,24 +45,34 @@ kept service o count {n} {array} h =
     ap (kept_count service) (ap (λ (k : ℕ). take k array) h.size ∙ array-all service o count zeros zeros-length array h.fit h.laid-over) ∙ kept-count service count o
 
 pub slice_bounds-septets-end : goal.slice_bounds-septets-end
-slice_bounds-septets-end c = let a = c.args in (held a.service a.octets.now a.count (sym c.in-Ok.is ∙ c.unpack_whole.ensures.answer) c.unpack_whole.ensures.buffer).room
+slice_bounds-septets-end c = let a = c.args in (held a.service a.octets.now a.count (sym c.in_ok-all.was ∙ c.unpack_whole.ensures.answer) c.unpack_whole.ensures.buffer).room
 
 pub slice_bounds-text_length-end : goal.slice_bounds-text_length-end
 slice_bounds-text_length-end c =
     let a = c.args in
-    sym (length-take-le _ _ (held a.service a.octets.now a.count (sym c.in-Ok.is ∙ c.unpack_whole.ensures.answer) c.unpack_whole.ensures.buffer).room)
+    sym (length-take-le _ _ (held a.service a.octets.now a.count (sym c.in_ok-all.was ∙ c.unpack_whole.ensures.answer) c.unpack_whole.ensures.buffer).room)
 
-pub store-requires : goal.store-requires
-store-requires c =
+-- there is room for what is kept
+within : (service : Service) (o : List ℕ) (count : ℕ) {n m : ℕ} {array : List ℕ} → Held service o count n array → m ≡ kept_count service (take n array) → m ≤ length array
+within service o count h e = omega (arith, e, kept service o count h, kept-most service o count, all_most service o count h.fit, h.long)
+
+pub slice_bounds-septets-end-2 : goal.slice_bounds-septets-end-2
+slice_bounds-septets-end-2 c =
     let a = c.args in
-    let h = held a.service a.octets.now a.count (sym c.in-Ok.is ∙ c.unpack_whole.ensures.answer) c.unpack_whole.ensures.buffer in
-    (omega (arith, c.text_length-n.ensures.answer, kept a.service a.octets.now a.count h, kept-most a.service a.octets.now a.count, all_most a.service a.octets.now a.count h.fit), h.long)
+    let h = held a.service a.octets.now a.count (sym c.in_ok-all.was ∙ c.unpack_whole.ensures.answer) c.unpack_whole.ensures.buffer in
+    within a.service a.octets.now a.count h c.text_length-n.ensures.answer
 
-pub returns-in-Ok : goal.returns-in-Ok
-returns-in-Ok c =
+pub slice_bounds-store-end : goal.slice_bounds-store-end
+slice_bounds-store-end c =
+    let a = c.args in
+    let h = held a.service a.octets.now a.count (sym c.in_ok-all.was ∙ c.unpack_whole.ensures.answer) c.unpack_whole.ensures.buffer in
+    sym (length-take-le _ _ (within a.service a.octets.now a.count h c.text_length-n.ensures.answer))
+
+pub returns : goal.returns
+returns c =
     let a = c.args in
     let array : List ℕ = c.unpack_whole.new.out in
-    let h = held a.service a.octets.now a.count (sym c.in-Ok.is ∙ c.unpack_whole.ensures.answer) c.unpack_whole.ensures.buffer in
+    let h = held a.service a.octets.now a.count (sym c.in_ok-all.was ∙ c.unpack_whole.ensures.answer) c.unpack_whole.ensures.buffer in
     let front : take c.text_length-n.result array ≡ septets_of a.service a.count a.octets.now =
     ap (λ (n : ℕ). take n array) (c.text_length-n.ensures.answer ∙ kept a.service a.octets.now a.count h)
     ∙ array-front a.service a.octets.now a.count zeros zeros-length array h.fit h.laid-over in
@@ -69,9 +80,10 @@ returns-in-Ok c =
     (unpack-passed a.service a.octets.now a.out.now a.count h.fit
     (subst (λ (s : List ℕ). Gives s a.out.now c.store.result c.store.new.out) front (c.store.ensures.answer, c.store.ensures.buffer)))
 
-pub returns-in-Err : goal.returns-in-Err
+pub returns-in_err-all : goal.returns-in_err-all
 unfolding unpack_rules unpack_answers unpack_leaves verdict
-returns-in-Err c =
+returns-in_err-all c =
     let a = c.args in
-    let f = array-refused a.service a.octets.now a.count zeros zeros-length c.in-Err.refusal (sym c.in-Err.is ∙ c.unpack_whole.ensures.answer) in
-    answered (simp f.0 (ap Err f.1, refl))
+    let told : c.from_residual.result ≡ Err c.in_err-all.field-0.0 = search rules in
+    let f = array-refused a.service a.octets.now a.count zeros zeros-length c.in_err-all.field-0.0 (sym c.in_err-all.was ∙ c.unpack_whole.ensures.answer) in
+    answered (simp f.0 (told ∙ ap Err f.1, refl))

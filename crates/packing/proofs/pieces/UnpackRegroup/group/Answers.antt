@@ -5,8 +5,8 @@ use mathlib.Core.List.{List, ◌++◌}
 use lib.ListN.{take, drop}
 use Rattle.stream.specs.Digits.{value, digits}
 use Rattle.stream.proofs.LowBits.{low_same, apart-seven, apart-octets}
-use Rattle.packing.proofs.pieces.unpack_group.Goals.{else-from-octets, then-from-octets}
-use Rattle.packing.proofs.pieces.unpack_group.Goals as goal
+use Rattle.packing.proofs.pieces.UnpackRegroup.group.Goals.{else-from-octets, then-from-octets}
+use Rattle.packing.proofs.pieces.UnpackRegroup.group.Goals as goal
 
 pub returns : goal.returns
 returns c =
