@@ -6,14 +6,16 @@ use Prim.Native.Nat.{ℕ, ◌≤◌, ◌<◌}
 use native.Mathlib.Omega.{arith}
 use native.Mathlib.Decide.{dec_le}
 use borrow.Author.Tests.{ne_eqb, lt-ltb, le-ltb}
-use lib.Dec.{eqb}
+use lib.Dec.{eqb, ltb}
 use Rattle.words.specs.Sizes.{is_old_page}
 use Rattle.words.specs.Judging.{verdict}
 use Rattle.words.specs.declared.Service.{Service}
 use Rattle.words.specs.declared.Service.TheVariants.{ShortMessage, Broadcast, Ussd, OldPage}
 use Rattle.words.specs.declared.Refusal.TheVariants.{Unwritable}
 use Rattle.keys.specs.Keys.{reserved_digit, short_key, page_key}
-use Rattle.octets.specs.Smallest.{first_octet, short_octet, page_octet}
+use Rattle.octets.specs.Smallest.{first_octet, short_octet, page_octet, octet_or_none}
+use Rattle.std.specs.Option.{ok_or}
+use Rattle.std.specs.Prelude.{Some, None, Ok, Err}
 use Rattle.octets.proofs.First.{first-most, first-agree}
 use Rattle.coding.specs.declared.Reading.{Reading}
 use Rattle.coding.specs.OctetRead.{read_under}
@@ -22,7 +24,6 @@ use Rattle.coding.specs.Inner.{key_of, written_as}
 use Rattle.coding.proofs.Keys.{key-digits, flag-back}
 use Rattle.coding.proofs.Same.{same_key}
 use Rattle.coding.proofs.Octets.{short-key-is, page-key-is}
-use Rattle.std.specs.Prelude.{Ok, Err}
 
 pub write-old : (r : Reading) → octet_writes OldPage r ≡ Err Unwritable
 unfolding octet_writes write_rules verdict
@@ -67,6 +68,14 @@ module _ (s : Service) (key : ℕ → ℕ) (new : is_old_page s ≡ false) (keye
       (λ o l. sym (ap (λ (k : ℕ). eqb k (key_of r)) (keyed o l) ∙ same_key (read_under s o) r)))
       ∙ ap (λ (b : Bool). written_as (cond b 256 (first_octet (λ (o : ℕ). eqb (key o) (key_of r)))))
       (sym (ap (λ (n : ℕ). eqb n 1) (key-digits r).reserved ∙ flag-back r.reserved))
+
+-- the octet that is written, or 8 of none
+pub written-option : (n : ℕ) → ok_or (octet_or_none n) Unwritable ≡ written_as n
+written-option n = go (ltb n 256)
+  where
+    go : (b : Bool) → ok_or (cond b (Some n) None) Unwritable ≡ cond b (Ok n) (Err Unwritable)
+    go true = refl
+    go false = refl
 
 pub write-short : (r : Reading) → octet_writes ShortMessage r ≡ written_as (short_octet (key_of r))
 unfolding short_octet

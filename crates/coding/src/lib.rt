@@ -11,7 +11,7 @@ ghost use Rattle.coding.specs.OctetWritten.{octet_writes};
 ghost use Rattle.fields.specs.Letters.{any_letter};
 ghost use Rattle.keys.specs.Keys.{alphabet_digit, class_digit, language_digit};
 ghost use Rattle.coding.specs.Holding.{is_ucs2, holds_text, holds_units};
-ghost use Rattle.coding.specs.Inner.{key_of, reading_of, written_as, unmarked_holds};
+ghost use Rattle.coding.specs.Inner.{key_of, reading_of, unmarked_holds};
 
 use fields::{
     ALPHABETS, Alphabet, CLASSES, Class, LANGUAGES, Language, Letters, Notice, flag, notice_at,
@@ -213,17 +213,6 @@ fn plain_done(ucs2: bool, septets: u8, units: u8) -> Result<u8, Refusal>
     if ucs2 { Ok(units) } else { Ok(septets) }
 }
 
-// The answer of an octet, or of 256, which is none.
-fn written(octet: u16) -> Result<u8, Refusal>
-    ensures { result ≡ written_as octet }
-{
-    if octet < 256 {
-        Ok(octet as u8)
-    } else {
-        Err(Refusal::Unwritable)
-    }
-}
-
 impl Reading {
     // The smallest octet that reads as self under the service. Refuses 8 for an old page, for a reserved reading, and where no octet
     // reads so.
@@ -232,9 +221,9 @@ impl Reading {
     {
         let key = self.key();
         match service {
-            Service::ShortMessage => written(octets::short_octet(key)),
-            Service::Broadcast => written(octets::page_octet(key)),
-            Service::Ussd => written(octets::page_octet(key)),
+            Service::ShortMessage => octets::short_octet(key).ok_or(Refusal::Unwritable),
+            Service::Broadcast => octets::page_octet(key).ok_or(Refusal::Unwritable),
+            Service::Ussd => octets::page_octet(key).ok_or(Refusal::Unwritable),
             Service::OldPage => Err(Refusal::Unwritable),
         }
     }

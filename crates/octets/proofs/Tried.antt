@@ -6,10 +6,12 @@ use mathlib.Core.Bool.{Bool, true, false, cond, not}
 use Prim.Native.Nat.{ℕ, ◌≤◌, ◌<◌}
 use native.Mathlib.Omega.{arith}
 use native.Mathlib.Decide.{dec_le}
+use borrow.Author.Tests.{lt-ltb}
 use lib.Dec.{T, eqb, ltb, leb, leb→le, eqb→eq}
 use Rattle.lists.proofs.Tests.{both, both_left, both_right, every_below, every-below}
 use Rattle.keys.specs.Keys.{alphabet_digit, language_digit, notice_digit, prefix_digit, reserved_digit, general_key, notice_key, last_key, short_key, language_key, header_key, page_key}
-use Rattle.octets.specs.Smallest.{first_octet, short_octet, page_octet}
+use Rattle.octets.specs.Smallest.{first_octet, short_octet, page_octet, octet_or_none}
+use Rattle.std.specs.Prelude.{Option, Some, None}
 use Rattle.octets.specs.Inner.{general_try, headed_try, short_try, page_try}
 use Rattle.octets.proofs.First.{first-most, first_holds, first-least}
 
@@ -81,6 +83,14 @@ page-try-octet k =
     (below (eqb (alphabet_digit k) 4) _ _ 256 (omega arith)
     (below (eqb (headed_try k) 0) _ _ 256 (omega arith) (omega arith))))))
 
+-- the same as an option
+checked-option : (key try : ℕ → ℕ) (k : ℕ) → try k < 256 → octet_or_none (checked_octet key try k) ≡ cond (eqb (key (try k)) k) (Some (try k)) None
+checked-option key try k l = go (eqb (key (try k)) k)
+  where
+    go : (b : Bool) → octet_or_none (cond b (try k) 256) ≡ cond b (Some (try k)) None
+    go true = simp (lt-ltb _ _ l) refl
+    go false = refl
+
 pub short-tried : (k : ℕ) → short_octet k ≡ checked_octet short_key short_try k
 unfolding short_octet
 short-tried k = settled short_key short_try short-good k (short-try-octet k) _ _ refl refl
@@ -88,3 +98,9 @@ short-tried k = settled short_key short_try short-good k (short-try-octet k) _ _
 pub page-tried : (k : ℕ) → page_octet k ≡ checked_octet page_key page_try k
 unfolding page_octet
 page-tried k = settled page_key page_try page-good k (page-try-octet k) _ _ refl refl
+
+pub short-said : (k : ℕ) → octet_or_none (short_octet k) ≡ cond (eqb (short_key (short_try k)) k) (Some (short_try k)) None
+short-said k = ap octet_or_none (short-tried k) ∙ checked-option short_key short_try k (short-try-octet k)
+
+pub page-said : (k : ℕ) → octet_or_none (page_octet k) ≡ cond (eqb (page_key (page_try k)) k) (Some (page_try k)) None
+page-said k = ap octet_or_none (page-tried k) ∙ checked-option page_key page_try k (page-try-octet k)

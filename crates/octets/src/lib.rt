@@ -1,15 +1,12 @@
 // The smallest data coding octet of a key: the one octet that can be is built and read back.
 #![tactic(auto)]
 
-ghost use Rattle.std.specs.Prelude.{◌≡◌, ◌<◌};
-ghost use Rattle.octets.specs.Smallest.{short_octet, page_octet};
+ghost use Rattle.std.specs.Prelude.{◌≡◌, ◌<◌, cond, eqb};
+ghost use Rattle.octets.specs.Smallest.{short_octet, page_octet, octet_or_none};
 ghost use Rattle.keys.specs.Keys.{class_digit};
 ghost use Rattle.octets.specs.Inner.{class_bits, general_try, short_try, page_try};
 
 use keys::{COMPRESSED, DELETION, HEADER, I1, PLAIN, PREFIX, UCS2, WAP};
-
-// No octet.
-const NONE: u16 = 256;
 
 // What a class adds to an octet of groups 00xx and 01xx, by its number; a user-defined class lifts it to group 1111.
 const CLASS_BITS: [u8; 8] = [0, 0x10, 0x11, 0x12, 0x13, 0xb1, 0xb2, 0];
@@ -17,8 +14,7 @@ const CLASS_BITS: [u8; 8] = [0, 0x10, 0x11, 0x12, 0x13, 0xb1, 0xb2, 0];
 fn class_bits(key: u32) -> u8
     ensures { result ≡ class_bits (class_digit key) }
 {
-    let class = (key / keys::CLASS % 8) as usize;
-    CLASS_BITS[class]
+    CLASS_BITS[(key / keys::CLASS % 8) as usize]
 }
 
 // Bits 5..0 of the octet of groups 00xx and 01xx with that key.
@@ -71,39 +67,38 @@ fn page_try(key: u32) -> u8
     }
 }
 
-// The smallest octet of a short message with that key, or 256 where there is none and for a reserved one. Plain text, 7-bit or UCS2, is by
-// far the most, so its octets are known.
-pub fn short_octet(key: u32) -> u16
-    ensures answer { result ≡ short_octet key }
+// An octet that was tried for a key, where it says that key.
+fn checked(octet: u8, said: u32, key: u32) -> Option<u8>
+    ensures { result ≡ cond (eqb said key) (Some octet) None }
 {
-    if key == PLAIN {
-        return 0x00;
-    }
-    if key == PLAIN + UCS2 {
-        return 0x08;
-    }
-    let octet = short_try(key);
-    if short_keys::short_key(octet) == key {
-        octet as u16
-    } else {
-        NONE
-    }
+    if said == key { Some(octet) } else { None }
 }
 
-// The smallest octet of a broadcast page or USSD with that key, or 256.
-pub fn page_octet(key: u32) -> u16
-    ensures answer { result ≡ page_octet key }
+// The smallest octet of a short message with that key: none of a reserved one. Plain text, 7-bit or UCS2, is by far the most, so its octets
+// are known.
+pub fn short_octet(key: u32) -> Option<u8>
+    ensures answer { result ≡ octet_or_none (short_octet key) }
 {
     if key == PLAIN {
-        return 0x0f;
+        return Some(0x00);
     }
     if key == PLAIN + UCS2 {
-        return 0x48;
+        return Some(0x08);
+    }
+    let octet = short_try(key);
+    checked(octet, short_keys::short_key(octet), key)
+}
+
+// The smallest octet of a broadcast page or USSD with that key, likewise.
+pub fn page_octet(key: u32) -> Option<u8>
+    ensures answer { result ≡ octet_or_none (page_octet key) }
+{
+    if key == PLAIN {
+        return Some(0x0f);
+    }
+    if key == PLAIN + UCS2 {
+        return Some(0x48);
     }
     let octet = page_try(key);
-    if page_keys::page_key(octet) == key {
-        octet as u16
-    } else {
-        NONE
-    }
+    checked(octet, page_keys::page_key(octet), key)
 }
