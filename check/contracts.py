@@ -43,7 +43,7 @@ def calls(text):
 def parameters(head):
     """The parameters of a call, in order, each as written."""
     inside = re.search(r"fn \w+(?:<[^>]*>)?\((.*?)\)\s*(?:->|\n|$)", head, re.S)[1]
-    return [one.strip() for one in re.split(r",(?![^\[]*\])", inside) if one.strip()]
+    return [one.strip() for one in re.split(r",(?![^\[]*\]|[^<]*>)", inside) if one.strip()]
 
 
 def lemmas_in(text):
@@ -174,6 +174,7 @@ def self_test():
     answer, buffer = good.split("\n")[1:3]
     faults = [
         ("nothing", good, laws, 0),
+        ("nothing of a comma within a type", good.replace("n: usize", "n: Result<usize, u8>"), laws, 0),
         ("a requires", good.replace(answer, "    requires { n ≡ 0 }\n" + answer), laws, 1),
         ("a starred requires", good.replace(answer, "    requires* room { n ≡ 0 }\n" + answer), laws, 1),
         ("nothing of tactics asked for", "#[tactic(auto, using(fills_all))]\n" + good, laws, 0),

@@ -59,8 +59,8 @@ text-octet-unique κs a x y u v p q = p ∙ sym q
 pub lettered-unique : OneAnswer lettered-kinds.ps lettered-kinds.r lettered-reads.Post
 lettered-unique κs a x y u v p q = p ∙ sym q
 
-pub held-ucs2-unique : OneAnswer held-ucs2-kinds.ps held-ucs2-kinds.r held-ucs2-reads.Post
-held-ucs2-unique κs a x y u v p q = p ∙ sym q
+pub held-is-ucs2-unique : OneAnswer held-ucs2-kinds.ps held-ucs2-kinds.r held-ucs2-reads.Post
+held-is-ucs2-unique κs a x y u v p q = p ∙ sym q
 
 pub is-ucs2-unique : OneAnswer is-ucs2-kinds.ps is-ucs2-kinds.r is-ucs2-reads.Post
 is-ucs2-unique κs a x y u v p q = p ∙ sym q
