@@ -227,20 +227,12 @@ pub fn notice_at(n: u32) -> Notice
     if n == 0 {
         return Notice::Nothing;
     }
-    let i = (n % 4) as usize;
-    let kinds = KINDS;
-    let kind = kinds[i];
+    let kind = KINDS[(n % 4) as usize];
     let active = n / 8 % 2 == 1;
     if n < 32 {
-        Notice::Discard {
-            active: active,
-            kind: kind,
-        }
+        Notice::Discard { active, kind }
     } else {
-        Notice::Store {
-            active: active,
-            kind: kind,
-        }
+        Notice::Store { active, kind }
     }
 }
 
@@ -264,5 +256,5 @@ impl Letters {
 fn is_letter(octet: u8) -> bool
     ensures { result ≡ is_letter octet }
 {
-    0x61 <= octet && octet <= 0x7a
+    matches!(octet, 0x61..=0x7a)
 }

@@ -13,18 +13,14 @@ use words::{Refusal, Service};
 pub fn new_meter(service: Service) -> Meter
     ensures answer { result ≡ new_meter service }
 {
-    Meter {
-        service: service,
-        used: 0,
-    }
+    Meter { service, used: 0 }
 }
 
 // The number to show: how many septets remain, below zero where the text is over.
 pub fn left(meter: Meter) -> i64
     ensures answer { result ≡ remains meter }
 {
-    let service = meter.service;
-    let size = service.most_septets() as i64;
+    let size = meter.service.most_septets() as i64;
     let used = meter.used as i64;
     size - used
 }
@@ -51,8 +47,7 @@ pub fn taken_back(meter: Meter, unit: u16) -> Keyed
 pub fn cleared(meter: Meter) -> Keyed
     ensures answer { result ≡ keyed meter clear }
 {
-    let service = meter.service;
-    let empty = new_meter(service);
+    let empty = new_meter(meter.service);
     Keyed {
         meter: empty,
         answer: Ok(()),
@@ -103,13 +98,7 @@ fn septets_of(unit: u16) -> u64
 fn is_small(unit: u16) -> bool
     ensures { result ≡ true → unit_septets unit ≡ 1 }
 {
-    if unit < 0x61 {
-        return false;
-    }
-    if 0x7a < unit {
-        return false;
-    }
-    true
+    matches!(unit, 0x61..=0x7a)
 }
 
 // The same of any unit, which is encoded as a text of its own: a second caller of the tables would cost every message that is written.
@@ -136,10 +125,9 @@ fn less(used: u64, septets: u64) -> u64
 fn judged(meter: Meter, septets: u64, sum: u64) -> Keyed
     ensures { result ≡ judged_as meter septets sum }
 {
-    let service = meter.service;
     // What the key leaves where it goes.
     let next = Meter {
-        service: service,
+        service: meter.service,
         used: (sum % 4_294_967_296) as u32,
     };
     if septets < 1 {
