@@ -15,10 +15,10 @@ use Rattle.coding.specs.declared.Reading.{Reading}
 use Rattle.coding.specs.Readings.{unmentioned}
 use Rattle.names.specs.Names.{numbers_of}
 use Rattle.pages.specs.declared.Header.{Header}
-use Rattle.pages.specs.declared.Built.{Built}
 use Rattle.pages.specs.declared.PagesWritten.{PagesWritten}
 use Rattle.pages.specs.declared.Joined.{Joined}
 use Rattle.pages.specs.Blocks.{block_size}
+use Rattle.pages.specs.Written.{Built}
 use Rattle.pages.specs.Reports.{counted_number, counted_position, counted_pages, pages_number, pages_position, pages_written, pages_pages, join_number, join_position, join_written, join_reading, join_sequence, join_identifier, join_pages}
 use Rattle.page_answers.specs.declared.BlockHeader.{BlockHeader}
 use Rattle.page_answers.specs.declared.PagesAnswer.{PagesAnswer}

@@ -4,6 +4,7 @@
 --   count-accepts, count-accepted   count_pages accepts exactly where the text is PagesWritable
 --   build-accepts, build-accepted   build_page, exactly where page k is PageBuildable
 --   write-accepts, write-accepted   write_pages, exactly where the pages are PagesStorable
+--   built-of                        what build_page answers, as C gets it
 --   join-accepts, join-accepted     join_pages, exactly where the blocks are PagesJoinable
 --   count-verdict, build-verdict, write-verdict, join-verdict   the verdict that each answer tells
 --   coding-back          the coding octet that is written reads as the reading
@@ -22,7 +23,7 @@ use Rattle.words.specs.declared.Refusal.TheVariants.{WrongLength, TooLong, Unlis
 use Rattle.lists.specs.Lists.{laid}
 use Rattle.filling.specs.Numbered.{lacks}
 use Rattle.filling.proofs.Placing.{lacks-none, none-lacks}
-use Rattle.words.specs.Judging.{when, accepted, verdict}
+use Rattle.words.specs.Judging.{when, Verdict, refused, accepted, verdict, settle}
 use Rattle.words.proofs.Judging.{accepted-rule, accepted-parts, accepted-both, settle-told, settle-given}
 use Rattle.coding.specs.declared.Reading.{Reading}
 use Rattle.coding.specs.OctetRead.{read_under}
@@ -36,17 +37,19 @@ use Rattle.demands.specs.MessageWritten.{not_codable}
 use Rattle.demands.proofs.Accepting.{text-accepts}
 use Rattle.coding.proofs.Prefixed.{read-given}
 use Rattle.demands.proofs.Steps.{text-accepted, coding-verdict}
+use Rattle.pages.specs.declared.Page.{Page}
 use Rattle.pages.specs.declared.PagesWritten.{PagesWritten}
+use Rattle.pages.specs.Blocks.{block_size}
 use Rattle.pages.specs.declared.Joined.{Joined}
 use Rattle.pages.specs.Parts.{most_pages}
-use Rattle.pages.specs.Written.{reading_pages, reading_content, block_as, blocks_as, size_rules, count_rules, count_answers, build_rules, built_as, pages_rules, pages_answers, pages_leaves}
+use Rattle.pages.specs.Written.{reading_pages, reading_content, block_as, blocks_as, size_rules, count_rules, count_answers, build_rules, build_answers, built_of, built_as, pages_rules, pages_answers, pages_leaves}
 use Rattle.pages.specs.Joined.{header_at, total_at, wrong_pages, joined_text, joined_reading, page_rules, join_rules, join_answers, join_leaves}
 use Rattle.pages.specs.Messages.{PagesWritable, PageBuildable, PagesStorable, PagesJoinable}
 use Rattle.pages.proofs.Blocks.{blocks-length}
 use Rattle.std.specs.Prelude.{Result, Ok, Err}
 use Rattle.words.specs.declared.Refusal.{Refusal}
 use Rattle.pages.specs.Successes.{ok_joined}
-use Rattle.pages.specs.Successes.{ok_pages_written}
+use Rattle.pages.specs.Successes.{ok_page, ok_pages_written}
 
 -- ---- the verdict that an answer tells
 
@@ -115,6 +118,16 @@ module _ (r : Reading) (t : List ℕ) where
   count-accepted n e = rules-accepted (count-verdict r t (Ok n) (sym e))
 
 -- ---- building one page
+
+-- as C gets it
+pub built-of : (sequence identifier : ℕ) (r : Reading) (t : List ℕ) (k : ℕ) (a : Result Page Refusal) → a ≡ build_answers sequence identifier r t k → built_of a ≡ built_as sequence identifier r t k
+unfolding build_answers built_as
+built-of sequence identifier r t k a e = ap built_of e ∙ go (verdict (build_rules r t k))
+  where
+    go : (v : Verdict) → built_of (settle v Err (ok_page (block_as sequence identifier r t k) (reading_pages r t)))
+        ≡ record { answer = settle v Err (Ok (reading_pages r t)); block = settle v (λ q. replicate block_size 0) (block_as sequence identifier r t k) }
+    go accepted = refl
+    go (refused q) = refl
 
 module _ (sequence identifier : ℕ) (r : Reading) (t : List ℕ) (k : ℕ) where
   build-rules-accept : PageBuildable r t k → verdict (build_rules r t k) ≡ accepted

@@ -1,13 +1,13 @@
 -- How the calls that count, build and write pages come to their verdict, one step after the other. Assumes nothing.
---   paged-over, paged-none, paged-some      how many pages n take, by the code's own sums
+--   paged-over, paged-sum                   how many pages n take, by the code's own sums
 --   sized-units, sized-septets, sized-unlisted   the verdict on a text by itself: 6, 5
 use Rattle.words.proofs.Rules.{verdict_of}
 use mathlib.Core.Path.{◌≡◌, refl, ap, ap₂, ◌∙◌, sym, subst}
 use mathlib.Core.Bool.{Bool, true, false, cond}
 use mathlib.Core.List.{List, [], ◌∷◌, ◌++◌}
-use mathlib.Core.Logic.{inl}
-use Prim.Native.Nat.{ℕ, ◌+◌, ◌-◌, ◌*◌, ◌/◌, ◌≤◌, ◌<◌}
-use native.Mathlib.Nat.{mul_comm}
+use mathlib.Core.Logic.{◌⊎◌, inl, inr}
+use Prim.Native.Nat.{ℕ, ◌+◌, ◌-◌, ◌*◌, ◌/◌, ◌%◌, ◌≤◌, ◌<◌, min, max}
+use native.Mathlib.Nat.{mul_comm, mul-suc, mul-le-mul_left, mod-lt, div-add-mod'}
 use native.Mathlib.Decide.{dec_le}
 use native.Mathlib.Omega.{arith}
 use borrow.Author.Tests.{lt-ltb, le-ltb, ltb-false}
@@ -18,7 +18,7 @@ use Rattle.lists.specs.Lists.{first_place, laid}
 use Rattle.lists.proofs.Below.{Below}
 use Rattle.lists.proofs.Laid.{laid-length, laid-full}
 use Rattle.filling.specs.Numbered.{lacks}
-use Rattle.filling.proofs.Parts.{fewest-over, fewest-are, fewest-sum, fewest-some, fewest-hold, fewest-least, fewest-begun}
+use Rattle.filling.proofs.Parts.{fewest-over, fewest-are, fewest-some, fewest-hold, fewest-begun}
 use Rattle.letters.proofs.Theorems.{septets-below}
 use Rattle.words.specs.declared.Refusal.{Refusal}
 use Rattle.words.specs.declared.Refusal.TheVariants.{Unlisted, TooLong, NoRoom, WrongPages}
@@ -34,13 +34,13 @@ use Rattle.stream.proofs.Sent.{low_narrow}
 use Rattle.stream.proofs.Theorems.{page-octets-length}
 use Rattle.demands.specs.MessageWritten.{not_codable}
 use Rattle.demands.proofs.Demands.{take-laid}
-use Rattle.pages.specs.declared.Built.{Built}
+use Rattle.pages.specs.declared.Page.{Page}
 use Rattle.pages.specs.Parts.{most_pages, page_room, content_of, pages_holding, pages_of}
 use Rattle.pages.specs.Written.{page_block, blocks_from, size_rules}
-use Rattle.pages.specs.Inner.{sized_as, paged_as, refused_built, text_built, text_blocks, text_pages, text_pages_leaves}
+use Rattle.pages.specs.Inner.{sized_as, paged_as, text_builds, text_blocks, text_pages, text_pages_leaves}
 use Rattle.pages.proofs.Blocks.{blocks-length}
 use Rattle.std.specs.Prelude.{Result, Ok, Err}
-use Rattle.pages.specs.Successes.{ok_pages_written}
+use Rattle.pages.specs.Successes.{ok_page, ok_pages_written}
 
 -- ---- how many pages
 
@@ -48,18 +48,39 @@ paged-are : (room n k : ℕ) → pages_holding room n ≡ k → k ≤ 15 → pag
 unfolding paged_as verdict
 paged-are room n k e h = simp (e, le-ltb 15 k h)
 
-pub paged-over : (room n : ℕ) → 15 * room < n → paged_as room n ≡ Err TooLong
+-- the rounded quotient, but 1 of nothing: it holds n, and one less does not
+rounded : (room n k : ℕ) → 0 < room → k ≡ max (n / room + min 1 (n % room)) 1 → (n ≤ room * k) × ((k ≡ 1) ⊎ (room * (k - 1) < n))
+rounded room n k some e = elim (dec_le (n % room) 0) [
+  | yes none ↦ elim (dec_le (n / room) 0) [
+    | yes zero ↦ let one : k ≡ 1 = omega arith in (omega (arith, parts, ap (λ (q : ℕ). q * room) (le-0 (n / room) zero)), inl one)
+    | no more ↦
+        let is : k ≡ n / room = omega arith in
+        let all : n ≡ room * k = omega (arith, parts, ap (λ (q : ℕ). room * q) is, mul_comm (n / room) room) in
+        (omega (arith, all), inr (omega (arith, all, last-from k (omega arith))))
+  ]
+  | no left ↦
+      let is : k ≡ n / room + 1 = omega arith in
+      let before : room * (k - 1) ≡ n / room * room = ap (λ (q : ℕ). room * q) (omega arith) ∙ mul_comm room (n / room) in
+      (omega (arith, parts, before, mod-lt n some, last-from k (omega arith)), inr (omega (arith, parts, before)))
+]
+  where
+    parts : n / room * room + n % room ≡ n
+    parts = div-add-mod' n room
+
+    le-0 : (m : ℕ) → m ≤ 0 → m ≡ 0
+    le-0 m h = omega arith
+
+    last-from : (m : ℕ) → 1 ≤ m → room * m ≡ room * (m - 1) + room
+    last-from m h = ap (λ (j : ℕ). room * j) (omega arith) ∙ mul-suc room (m - 1)
+
+pub paged-over : (room n k : ℕ) → 0 < room → k ≡ max (n / room + min 1 (n % room)) 1 → 15 < k → paged_as room n ≡ Err TooLong
 unfolding paged_as verdict
-paged-over room n h = simp (lt-ltb 15 (pages_holding room n) ((fewest-over 15 room n (omega arith)).1 (omega (arith, mul_comm room 15))))
+paged-over room n k some e h =
+    let more : room * 15 < n = elim (rounded room n k some e).1 as (λ w. room * 15 < n) [ inl one ↦ absurd (omega arith) | inr less ↦ omega (arith, less, mul-le-mul_left {m = 15} {n = k - 1} room (omega arith)) ] in
+    simp (lt-ltb 15 (pages_holding room n) ((fewest-over 15 room n (omega arith)).1 more))
 
-pub paged-none : (room n : ℕ) → n ≡ 0 → paged_as room n ≡ Ok 1
-paged-none room n e = paged-are room n 1 (fewest-are 15 room n 1 (omega arith) (omega arith) (omega arith) (inl refl)) (omega arith)
-
-pub paged-some : (room n : ℕ) → 0 < room → 0 < n → n ≤ 15 * room → paged_as room n ≡ Ok ((n + room - 1) / room)
-paged-some room n some few fits =
-    let fit : n ≤ room * 15 = omega (arith, mul_comm room 15) in
-    let sum : pages_holding room n ≡ (n + room - 1) / room = fewest-sum 15 room n some few fit in
-    paged-are room n ((n + room - 1) / room) sum (omega (arith, sum, fewest-least 15 room n 15 (omega arith) fit))
+pub paged-sum : (room n k : ℕ) → 0 < room → k ≡ max (n / room + min 1 (n % room)) 1 → k ≤ 15 → paged_as room n ≡ Ok k
+paged-sum room n k some e h = let w = rounded room n k some e in paged-are room n k (fewest-are 15 room n k (omega arith) h w.0 w.1) h
 
 -- ---- the verdict on a text by itself
 
@@ -184,8 +205,8 @@ unfolding sized_as
 sized-refused ucs2 t q e = settle-told verdict_of Err (Ok (pages_of ucs2 t)) (λ q. refl) refl (verdict (size_rules ucs2 t)) (Err q) e
 
 module _ (sequence identifier coding : ℕ) (ucs2 : Bool) (t : List ℕ) where
-  pub built-refused : (k : ℕ) (q : Refusal) → Err q ≡ sized_as ucs2 t → refused_built q ≡ text_built sequence identifier coding ucs2 t k
-  unfolding text_built
+  pub built-refused : (k : ℕ) (q : Refusal) → Err q ≡ sized_as ucs2 t → Err q ≡ text_builds sequence identifier coding ucs2 t k
+  unfolding text_builds
   built-refused k q e =
       let x : List Rule = when (lacks (pages_of ucs2 t) k) WrongPages ∷ [] in
       let v : verdict (size_rules ucs2 t ++ x) ≡ refused q = verdict-refused-first (size_rules ucs2 t) x q (sized-refused ucs2 t q e) in
@@ -200,12 +221,12 @@ module _ (sequence identifier coding : ℕ) (ucs2 : Bool) (t : List ℕ) where
       (sym (simp v), sym (simp v))
 
   -- page k of so many
-  abbrev made : ℕ → ℕ → Built
-  made total k = record { answer = Ok total; block = page_block sequence identifier coding total ucs2 (content_of ucs2 t) k }
+  abbrev made : ℕ → ℕ → Result Page Refusal
+  made total k = ok_page (page_block sequence identifier coding total ucs2 (content_of ucs2 t) k) total
 
   module _ (total : ℕ) (f : Fits ucs2 t total) where
-    pub built-lacks : (k : ℕ) → lacks total k ≡ true → refused_built WrongPages ≡ text_built sequence identifier coding ucs2 t k
-    unfolding text_built verdict
+    pub built-lacks : (k : ℕ) → lacks total k ≡ true → Err WrongPages ≡ text_builds sequence identifier coding ucs2 t k
+    unfolding text_builds verdict
     built-lacks k e =
         let x : List Rule = when (lacks (pages_of ucs2 t) k) WrongPages ∷ [] in
         let absent : lacks (pages_of ucs2 t) k ≡ true = ap (λ (n : ℕ). lacks n k) (sym f.pages) ∙ e in
@@ -213,8 +234,8 @@ module _ (sequence identifier coding : ℕ) (ucs2 : Bool) (t : List ℕ) where
         sym (simp v)
 
     pub built-page : (k : ℕ) → lacks total k ≡ false
-        → made total k ≡ text_built sequence identifier coding ucs2 t k
-    unfolding text_built verdict
+        → made total k ≡ text_builds sequence identifier coding ucs2 t k
+    unfolding text_builds verdict
     built-page k e =
         let x : List Rule = when (lacks (pages_of ucs2 t) k) WrongPages ∷ [] in
         let there : lacks (pages_of ucs2 t) k ≡ false = ap (λ (n : ℕ). lacks n k) (sym f.pages) ∙ e in

@@ -1,8 +1,7 @@
 -- What private functions of the calls with pages say of themselves: no contract of a public call cites this file.
 -- Own rule: none. Assumes nothing.
 --   sized_as ucs2 units, paged_as room n      == how many pages a text takes, or 6 or 5; how many n take where a page has that room, or 5
---   refused_built q                           == the answer of a page that is refused
---   text_built, text_pages, text_pages_leaves == building one page and writing all pages of a text under a coding octet, by itself: 6, 5, then 10 or 7
+--   text_builds, text_pages, text_pages_leaves == building one page and writing all pages of a text under a coding octet, by itself: 6, 5, then 10 or 7
 --   text_joins, text_join_leaves              == the joining of blocks whose coding octet is read as ucs2 says, and what it leaves in the lent buffer: 10, 7
 --   held_joins, held_join_leaves              == the joining of blocks whose first has the header h and is read as r: 1, 2, 3, 10, 7
 --   joined_as h r answer                      == the answer of joining text, with the header h and the reading r
@@ -18,16 +17,15 @@ use Rattle.words.specs.declared.Service.TheVariants.{Broadcast}
 use Rattle.coding.specs.declared.Reading.{Reading}
 use Rattle.coding.specs.Holding.{is_ucs2, text_rules}
 use Rattle.pages.specs.declared.Header.{Header}
-use Rattle.pages.specs.declared.Built.{Built}
+use Rattle.pages.specs.declared.Page.{Page}
 use Rattle.pages.specs.declared.PagesWritten.{PagesWritten}
 use Rattle.pages.specs.declared.Joined.{Joined}
 use Rattle.pages.specs.declared.Order.{Order}
-use Rattle.pages.specs.Blocks.{block_size}
 use Rattle.pages.specs.Parts.{most_pages, content_of, pages_holding, pages_of}
 use Rattle.pages.specs.Written.{size_rules, page_block, blocks_from}
 use Rattle.pages.specs.Joined.{total_at, place_of, joined_text, page_rules}
 use Rattle.pages.specs.Successes.{ok_joined}
-use Rattle.pages.specs.Successes.{ok_pages_written}
+use Rattle.pages.specs.Successes.{ok_page, ok_pages_written}
 
 unfoldable pub sized_as : Bool → List ℕ → Result ℕ Refusal
 sized_as ucs2 units = settle (verdict (size_rules ucs2 units)) Err (Ok (pages_of ucs2 units))
@@ -35,19 +33,10 @@ sized_as ucs2 units = settle (verdict (size_rules ucs2 units)) Err (Ok (pages_of
 unfoldable pub paged_as : ℕ → ℕ → Result ℕ Refusal
 paged_as room n = settle (verdict (when (ltb most_pages (pages_holding room n)) TooLong ∷ [])) Err (Ok (pages_holding room n))
 
-abbrev pub refused_built : Refusal → Built
-refused_built q = record { answer = Err q; block = replicate block_size 0 }
-
-unfoldable pub text_built : ℕ → ℕ → ℕ → Bool → List ℕ → ℕ → Built
-text_built sequence identifier coding ucs2 units k =
-    record {
-      answer =
-          settle (verdict (size_rules ucs2 units ++ (when (lacks (pages_of ucs2 units) k) WrongPages ∷ []))) Err
-          (Ok (pages_of ucs2 units));
-      block =
-          settle (verdict (size_rules ucs2 units ++ (when (lacks (pages_of ucs2 units) k) WrongPages ∷ []))) (λ q. replicate block_size 0)
-          (page_block sequence identifier coding (pages_of ucs2 units) ucs2 (content_of ucs2 units) k);
-    }
+unfoldable pub text_builds : ℕ → ℕ → ℕ → Bool → List ℕ → ℕ → Result Page Refusal
+text_builds sequence identifier coding ucs2 units k =
+    settle (verdict (size_rules ucs2 units ++ (when (lacks (pages_of ucs2 units) k) WrongPages ∷ []))) Err
+    (ok_page (page_block sequence identifier coding (pages_of ucs2 units) ucs2 (content_of ucs2 units) k) (pages_of ucs2 units))
 
 abbrev pub text_blocks : ℕ → ℕ → ℕ → Bool → List ℕ → List ℕ
 text_blocks sequence identifier coding ucs2 units =

@@ -5,7 +5,8 @@
 --                                               identifier, coding octet, total
 --   block_as, blocks_as                      == page k, and all pages, of a text that is written as the reading r
 --   count_rules, count_answers               == what refuses to count the pages of a text, and what count_pages answers
---   build_rules, built_as                    == the same of build_page
+--   build_rules, build_answers               == the same of build_page
+--   Built, built_of, built_as                == the same as C gets it: how many pages, and beside that the block, all zero where it is refused
 --   pages_rules, pages_answers, pages_leaves == the same of write_pages, and what it leaves in the lent buffer
 use Rattle.std.specs.Prelude.{ℕ, zero, suc, Bool, List, [], ◌∷◌, ◌++◌, ltb, length, replicate, Result, Ok, Err}
 use Rattle.words.specs.declared.Service.TheVariants.{Broadcast}
@@ -20,12 +21,12 @@ use Rattle.coding.specs.LanguageLetters.{coding_rules}
 use Rattle.coding.specs.Holding.{is_ucs2, text_rules}
 use Rattle.letters.specs.Writing.{first_unlisted}
 use Rattle.demands.specs.MessageWritten.{not_codable}
-use Rattle.pages.specs.declared.Built.{Built}
+use Rattle.pages.specs.declared.Page.{Page}
 use Rattle.pages.specs.declared.PagesWritten.{PagesWritten}
 use Rattle.pages.specs.Blocks.{block_size, block_of}
 use Rattle.pages.specs.Parts.{most_pages, page_room, content_of, pages_of, page_text}
 use Rattle.words.specs.declared.Refusal.{Refusal}
-use Rattle.pages.specs.Successes.{ok_pages_written}
+use Rattle.pages.specs.Successes.{ok_page, ok_pages_written}
 
 abbrev pub page_block : ℕ → ℕ → ℕ → ℕ → Bool → List ℕ → ℕ → List ℕ
 page_block sequence identifier coding total ucs2 content k =
@@ -66,6 +67,17 @@ count_answers r units = settle (verdict (count_rules r units)) Err (Ok (reading_
 
 unfoldable pub build_rules : Reading → List ℕ → ℕ → List Rule
 build_rules r units k = count_rules r units ++ (when (lacks (reading_pages r units) k) WrongPages ∷ [])
+
+unfoldable pub build_answers : ℕ → ℕ → Reading → List ℕ → ℕ → Result Page Refusal
+build_answers sequence identifier r units k = settle (verdict (build_rules r units k)) Err (ok_page (block_as sequence identifier r units k) (reading_pages r units))
+
+pub record Built : Type 0 where
+  pub answer : Result ℕ Refusal
+  pub block : List ℕ
+
+abbrev pub built_of : Result Page Refusal → Built
+built_of (Ok p) = record { answer = Ok p.pages; block = p.block }
+built_of (Err q) = record { answer = Err q; block = replicate block_size 0 }
 
 unfoldable pub built_as : ℕ → ℕ → Reading → List ℕ → ℕ → Built
 built_as sequence identifier r units k =

@@ -16,11 +16,12 @@ pub struct Header {
     pub number: u8,
 }
 
-// What building a page answers: how many pages the message has, and beside that the block, all zero where it is refused.
+// What building a page answers.
 #[derive(Clone, Copy)]
-pub struct Built {
-    pub answer: Result<usize, Refusal>,
+pub struct Page {
     pub block: [u8; 88],
+    // How many pages the message has.
+    pub pages: usize,
 }
 
 // What writing all pages answers.

@@ -7,7 +7,7 @@ use mathlib.Core.Bool.{Bool}
 use mathlib.Core.List.{List, [], ◌∷◌, ◌++◌}
 use Prim.Native.Nat.{ℕ}
 use lib.Dec.{ltb}
-use lib.ListN.{length, replicate}
+use lib.ListN.{length}
 use Rattle.words.specs.declared.Service.TheVariants.{Broadcast}
 use Rattle.words.specs.declared.Refusal.{Refusal}
 use Rattle.words.specs.declared.Refusal.TheVariants.{NoRoom, WrongPages}
@@ -16,19 +16,13 @@ use Rattle.lists.specs.Lists.{laid}
 use Rattle.filling.specs.Numbered.{lacks}
 use Rattle.coding.specs.declared.Reading.{Reading}
 use Rattle.coding.specs.Holding.{is_ucs2}
-use Rattle.pages.specs.declared.Built.{Built}
-use Rattle.pages.specs.Blocks.{block_size}
-use Rattle.pages.specs.Written.{block_as, blocks_as, reading_pages, size_rules, count_rules, count_answers, build_rules, built_as, pages_rules, pages_answers, pages_leaves}
-use Rattle.pages.specs.Inner.{sized_as, refused_built, text_built, text_pages, text_pages_leaves}
+use Rattle.pages.specs.Written.{block_as, blocks_as, reading_pages, size_rules, count_rules, count_answers, build_rules, build_answers, pages_rules, pages_answers, pages_leaves}
+use Rattle.pages.specs.Inner.{sized_as, text_builds, text_pages, text_pages_leaves}
 use Rattle.writer.specs.declared.TextCoding.{TextCoding}
 use Rattle.writer.specs.Settled.{settled_as}
 use Rattle.writer.proofs.Chosen.{front, front-behind, chosen}
 use Rattle.std.specs.Prelude.{Ok, Err}
-use Rattle.pages.specs.Successes.{ok_pages_written}
-
--- what is built at a verdict
-abbrev made_of : Verdict → ℕ → List ℕ → Built
-made_of v pages block = record { answer = settle v Err (Ok pages); block = settle v (λ q. replicate block_size 0) block }
+use Rattle.pages.specs.Successes.{ok_page, ok_pages_written}
 
 -- rules behind the count's
 behind : (r : Reading) (units : List ℕ) (x : List Rule) → verdict (count_rules r units ++ x) ≡ front Broadcast r (size_rules (is_ucs2 r.alphabet) units ++ x)
@@ -44,13 +38,13 @@ module _ (r : Reading) (units : List ℕ) where
         sym (ap (λ (v : Verdict). settle v Err (Ok (reading_pages r units))) (ch.0 (size_rules (is_ucs2 r.alphabet) units))
         ∙ ap (λ (b : Bool). sized_as b units) ch.2)
 
-    pub builds-text : (sequence identifier k : ℕ) → text_built sequence identifier c.octet c.ucs2 units k ≡ built_as sequence identifier r units k
-    unfolding built_as build_rules block_as text_built
+    pub builds-text : (sequence identifier k : ℕ) → text_builds sequence identifier c.octet c.ucs2 units k ≡ build_answers sequence identifier r units k
+    unfolding build_answers build_rules block_as text_builds
     builds-text sequence identifier k =
         let ch = chosen Broadcast r (Ok c) e in
         let x : List Rule = when (lacks (reading_pages r units) k) WrongPages ∷ [] in
         let v : verdict (count_rules r units ++ x) ≡ verdict (size_rules (is_ucs2 r.alphabet) units ++ x) = behind r units x ∙ ch.0 (size_rules (is_ucs2 r.alphabet) units ++ x) in
-        sym (ap (λ (v : Verdict). made_of v (reading_pages r units) (block_as sequence identifier r units k)) v ∙ ap₂ (λ (o : ℕ) (b : Bool). text_built sequence identifier o b units k) ch.1 ch.2)
+        sym (ap (λ (v : Verdict). settle v Err (ok_page (block_as sequence identifier r units k) (reading_pages r units))) v ∙ ap₂ (λ (o : ℕ) (b : Bool). text_builds sequence identifier o b units k) ch.1 ch.2)
 
     pub writes-text : (sequence identifier : ℕ) (out : List ℕ)
         → (text_pages sequence identifier c.octet c.ucs2 units (length out) ≡ pages_answers sequence identifier r units (length out))
@@ -70,8 +64,8 @@ module _ (r : Reading) (units : List ℕ) where
     unfolding count_answers count_rules
     counts-refused = sym (ap (λ (v : Verdict). settle v Err (Ok (reading_pages r units))) (chosen Broadcast r (Err q) e (size_rules (is_ucs2 r.alphabet) units)))
 
-    pub builds-refused : (sequence identifier k : ℕ) → refused_built q ≡ built_as sequence identifier r units k
-    unfolding built_as build_rules
+    pub builds-refused : (sequence identifier k : ℕ) → Err q ≡ build_answers sequence identifier r units k
+    unfolding build_answers build_rules
     builds-refused sequence identifier k =
         let x : List Rule = when (lacks (reading_pages r units) k) WrongPages ∷ [] in
         let v : verdict (count_rules r units ++ x) ≡ refused q = behind r units x ∙ chosen Broadcast r (Err q) e (size_rules (is_ucs2 r.alphabet) units ++ x) in

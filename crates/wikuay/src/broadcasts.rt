@@ -2,12 +2,13 @@
 // A reading with a number that names nothing is refused 8 before all else.
 ghost use Rattle.std.specs.Prelude.{◌≡◌, ◌≤◌, length};
 ghost use Rattle.pages.specs.Reports.{counted_pages, pages_pages, join_pages};
-ghost use Rattle.page_answers.specs.PageAnswers.{counted_answer, pages_written_answer, joined_answer};
+ghost use Rattle.pages.specs.Written.{built_of};
+ghost use Rattle.page_answers.specs.PageAnswers.{counted_answer, pages_written_answer, built_answer, joined_answer};
 ghost use Rattle.wikuay.specs.PageCalls.{read_header_gives, count_pages_gives, build_page_gives, write_pages_gives, write_pages_keeps, join_pages_gives, join_pages_keeps};
 
 use names::ReadingNumbers;
 use page_answers::{Block, BlockHeader, JoinAnswer, PageAnswer, PagesAnswer};
-use pages::{Joined, PagesWritten};
+use pages::{Joined, Page, PagesWritten};
 use words::Refusal;
 
 // The header of a block. It refuses nothing.
@@ -39,12 +40,7 @@ pub fn wikuay_build_page(
     ensures answer { result ≡ build_page_gives sequence identifier reading text.now number }
 {
     match names::reading(reading) {
-        Some(reading) => {
-            let page = paging::build_page(sequence, identifier, reading, text, number);
-            let answer = page.answer;
-            let octets = page.block;
-            page_answers::page(counted(answer), octets)
-        }
+        Some(reading) => built(paging::build_page(sequence, identifier, reading, text, number)),
         None => page_answers::page(
             page_answers::pages_refused(Refusal::Unwritable),
             [0u8; 88],
@@ -81,7 +77,18 @@ pub fn wikuay_join_pages(blocks: &[u8], out: &mut [u16]) -> JoinAnswer
     joined(joining::join_pages(blocks, out))
 }
 
-// The answer of counting pages in numbers, and of building one beside its block. No message has over 15 pages.
+// The answer of building a page in numbers, and its block, all zero where it is refused. No message has over 15 pages.
+fn built(answer: Result<Page, Refusal>) -> PageAnswer
+    requires { counted_pages (built_of answer).answer ≤ 15 }
+    ensures { result ≡ built_answer (built_of answer) }
+{
+    match answer {
+        Ok(Page { block, pages }) => page_answers::page(page_answers::pages_done(pages as u32, 0), block),
+        Err(refusal) => page_answers::page(page_answers::pages_refused(refusal), [0u8; 88]),
+    }
+}
+
+// The answer of counting pages in numbers. No message has over 15 pages.
 fn counted(answer: Result<usize, Refusal>) -> PagesAnswer
     requires { counted_pages answer ≤ 15 }
     ensures { result ≡ counted_answer answer }

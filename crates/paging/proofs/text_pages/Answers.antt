@@ -14,10 +14,10 @@ returns-then-ucs2 c = let a = c.args in
 pub returns-in-Ok : goal.returns-in-Ok
 returns-in-Ok c = let a = c.args in
     c.paged-in-Ok.ensures
-    ∙ measured-sized a.units.now (Ok c.in-Ok.n) (sym c.in-Ok.is ∙ ap (λ (s : Surveyed). s.measured) c.survey-seen.ensures.answer)
+    ∙ measured-sized a.units.now (Ok c.in-Ok.n) (sym c.in-Ok.is ∙ ap (λ (s : Surveyed). s.measured) c.survey.ensures.answer)
     ∙ ap (λ (b : Bool). sized_as b a.units.now) (sym c.if-ucs2.false)
 
 pub returns-in-Err : goal.returns-in-Err
 returns-in-Err c = let a = c.args in
-    measured-sized a.units.now (Err c.in-Err.unit) (sym c.in-Err.is ∙ ap (λ (s : Surveyed). s.measured) c.survey-seen.ensures.answer)
+    measured-sized a.units.now (Err c.in-Err.unit) (sym c.in-Err.is ∙ ap (λ (s : Surveyed). s.measured) c.survey.ensures.answer)
     ∙ ap (λ (b : Bool). sized_as b a.units.now) (sym c.if-ucs2.false)
