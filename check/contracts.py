@@ -6,7 +6,9 @@ buffer one clause is an equation of its new contents. A call that answers nothin
 one. The definitions stand in specs/ of a crate, and not in an Inner file.
 In proofs/Outcomes.antt of its crate, which Lib.antt names, a lemma states `OneAnswer` of that call's own contract, and one
 `OneBuffer` for each lent buffer: any two outcomes coincide. Of a call that borrows a struct they
-state `OneResult` and `OneRecord` of its clauses. docs/OUTCOMES.md has a row for each call, and for nothing else.
+state `OneResult` and `OneRecord` of its clauses. Of a struct with a lent buffer in it, lent as `&mut self` or handed out, the clauses are
+equations of its parts, and a lemma states of each part what OneBuffer does; of what is handed out it is `OneShown`, which Outcomes.antt defines.
+docs/OUTCOMES.md has a row for each call, and for nothing else.
 A crate X_c, a static library, exports the calls of X to C, all of them and nothing else: each has the name, the parameters and the
 clauses of X's call, by the same definitions, and its body is that call. Its contract is held to the same form. It has no lemmas and no
 row: a lemma speaks of the clauses, which are those of X's call.
@@ -22,7 +24,7 @@ import sys
 
 QUALIFIERS = r'(?:(?:const|unsafe|async|extern(?: "[^"]*")?) )*'
 START = re.compile(rf"^(?P<indent> *)pub {QUALIFIERS}fn (?P<name>\w+)", re.M)
-IMPL = re.compile(r"^impl (?P<type>\w+)", re.M)
+IMPL = re.compile(r"^impl(?:<[^>]*>)? (?P<type>\w+)", re.M)
 # What is known only once a call has ended: what an equation gives may not lean on it.
 AFTER = re.compile(r"(?<![\w.'])result(?![\w'])|\.new(?![\w'])")
 CLAUSE = re.compile(r"^\s*(?P<kind>requires|ensures)\b\*? *(?P<name>\w*) *\{(?P<body>.*?)\}\s*(?=^\s*(?:requires|ensures)\b|\Z)", re.M | re.S)
@@ -62,23 +64,38 @@ def first_name(equation):
 def judged(crate, module, name, kind, head, outcomes, defined):
     """What a call's contract lacks, in words; the definitions of its answer and of its lent buffers; and its lemmas, which are not asked
     for where the outcomes are None."""
-    wants, cited, lemmas = [], [], []
+    wants, cited, lemmas, handed = [], [], [], []
     front = re.split(r"^\s*(?:requires|ensures)\b", head, flags=re.M)[0]
     clauses = [(m["kind"], m["name"], " ".join(m["body"].split())) for m in CLAUSE.finditer(head)]
     if any(clause == "requires" for clause, _, _ in clauses):
         wants.append("has a requires")
     silent = "->" not in front
+
+    def parts_of(value):
+        """The parts of a struct of which a clause is an equation, each with what it equals; the name of a reference is none of them."""
+        found = [re.fullmatch(rf"{value}\.([\w.]+) ≡ (.*)", body) for clause, _, body in clauses if clause == "ensures"]
+        return [(part[1], part[2]) for part in found if part and not part[1].endswith("ghost_name") and not AFTER.search(part[2])]
+
+    given = [one.split(":")[0].lstrip("&").removeprefix("mut ") for one in parameters(front)]
+    lent = parts_of(r"self\.new") if "&mut self" in parameters(front) else []
     answers = [body for clause, named, body in clauses if (clause, named) == ("ensures", "answer")]
     equation = re.fullmatch(r"result ≡ (.*)", answers[0]) if len(answers) == 1 else None
     if silent:
         cited.append(None)
+    elif not answers and parts_of("result"):
+        handed = parts_of("result")
     elif not equation or AFTER.search(equation[1]):
         wants.append("has no `ensures answer` that is an equation of the result")
     else:
         cited.append(first_name(equation[1]))
     buffers = [(at, one.split(":")[0]) for at, one in enumerate(parameters(front)) if re.search(r": &(?:'\w+ )?mut ", one)]
-    if silent and not buffers:
+    cited += [first_name(equal) for _, equal in handed + lent]
+    if silent and not buffers and not lent:
         wants.append("answers nothing and lends no buffer")
+    # A buffer that is handed out has no end: it is a part of what the call answers.
+    kept_for = {one.split(":")[0]: re.search(r": &('\w+) mut ", one) for one in parameters(front)}
+    handed_on = [buffer for _, buffer in buffers if kept_for[buffer] and kept_for[buffer][1] in front.partition("->")[2]]
+    buffers = [(at, buffer) for at, buffer in buffers if buffer not in handed_on]
     for _, buffer in buffers:
         left = [re.fullmatch(rf"«?{buffer}»?\.new ≡ (.*)", body) for clause, _, body in clauses if clause == "ensures"]
         left = [found[1] for found in left if found and not AFTER.search(found[1])]
@@ -86,6 +103,7 @@ def judged(crate, module, name, kind, head, outcomes, defined):
             wants.append(f"has no equation of {buffer} at its end")
         else:
             cited.append(first_name(left[0]))
+    cited = [one if one and not one.isdigit() and one.split(".")[0] not in given else None for one in cited]
     wants += [f"cites {one}, which no specs/ outside Inner defines" for one in cited if one and one not in defined]
 
     if outcomes is None:
@@ -115,7 +133,13 @@ def judged(crate, module, name, kind, head, outcomes, defined):
 
     known = re.search(rf"^use Rattle\.words\.proofs\.Unique\.\{{[^}}]*{answer.split()[0]}", outcomes, re.M)
     lemmas.append(stating(answer) if known else None)
-    if not silent and not lemmas[0]:
+    for form, parts in ((r"OneShown KINDS \(λ κs x\. x\.PART(?: ∷ \[\])?\) POST", handed), (r"OneBuffer KINDS \(λ κs u\. u\.0\.now\.PART(?: ∷ \[\])?\) POST", lent)):
+        own = re.search(rf"^(?:use Rattle\.words\.proofs\.Unique\.\{{[^}}]*|abbrev ){form.split()[0]}", outcomes, re.M)
+        for part, _ in parts:
+            lemmas.append(stating(form.replace("PART", re.escape(part))) if own else None)
+            if not lemmas[-1]:
+                wants.append(f"has no lemma that is {form.split()[0]} of its part {part} and its contract")
+    if not silent and not handed and not lemmas[0]:
         wants.append(f"has no lemma {law}-unique that is {answer.split()[0]} of its contract")
     for at, buffer in buffers:
         lemmas.append(stating(kept.replace("PATH", re.escape(".1" * at + ".0"))))
@@ -224,6 +248,30 @@ def self_test():
         ("no equation of its buffer", mute.replace(buffer + "\n", ""), laws, 1),
         ("no lemma of its buffer", mute, laws.replace("pub fill-buffer-unique", "pub fill-buffer-other"), 1),
         ("no buffer", "pub fn rest(n: usize)\n{\n}\n", laws, 1),
+    ]
+    sheet = (
+        "impl<'a> Sheet<'a> {\n    pub fn fill(&mut self, n: usize)\n        ensures end { self.new.end ≡ fills self.old.end n }\n"
+        "        ensures buffer { self.new.buffer.now ≡ fill_leaves n self.old.buffer.now }\n"
+        "        ensures same_reference { self.new.buffer.ghost_name ≡ self.old.buffer.ghost_name }\n    {\n    }\n}\n"
+    )
+    parts = (
+        "use Rattle.words.proofs.Unique.{OneBuffer}\nuse Rattle.a.proofs.Sheet.fill.Kinds as kinds\nuse Rattle.a.proofs.Sheet.fill.Reads as fill\n"
+        "pub sheet-fill-unique : OneBuffer kinds.ps kinds.r (λ κs u. u.0.now.end ∷ []) fill.Post\nsheet-fill-unique κs = p\n\n"
+        "pub sheet-fill-buffer-unique : OneBuffer kinds.ps kinds.r (λ κs u. u.0.now.buffer.now) fill.Post\nsheet-fill-buffer-unique κs = p\n"
+    )
+    shown = sheet.replace("(&mut self, n: usize)", "(buffer: &'a mut [u8]) -> Sheet<'a>").replace("self.new", "result").replace("fills self.old.end n", "0").replace("fill_leaves n self.old.buffer.now", "buffer.old")
+    shows = (
+        parts.replace("use Rattle.words.proofs.Unique.{OneBuffer}", "abbrev OneShown : ⊤").replace("OneBuffer", "OneShown").replace("λ κs u. u.0.now.", "λ κs x. x.")
+    )
+    faults += [
+        ("nothing of a lent sheet", sheet, parts, 0),
+        ("no equation of its parts", sheet.replace("≡ fills", "≤ fills").replace("≡ fill_leaves", "≤ fill_leaves"), parts, 1),
+        ("a part by no definition", sheet.replace("≡ fills", "≡ unheard"), parts, 1),
+        ("no lemma of its place", sheet, parts.replace("pub sheet-fill-unique", "pub sheet-fill-other"), 1),
+        ("no lemma of its buffer", sheet, parts.replace("pub sheet-fill-buffer-unique", "pub sheet-fill-buffer-other"), 1),
+        ("nothing of a sheet that is handed out", shown, shows, 0),
+        ("no lemma of a part of it", shown, shows.replace("pub sheet-fill-buffer-unique", "pub sheet-fill-buffer-other"), 1),
+        ("no definition of what the lemma says", shown, shows.replace("abbrev OneShown", "abbrev Other"), 2),
     ]
     for front in ("const ", "unsafe ", 'extern "C" ', "const unsafe "):
         faults.append((f"a pub {front}fn", good.replace("pub fn", f"pub {front}fn").replace(buffer + "\n", ""), laws, 1))

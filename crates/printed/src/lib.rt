@@ -1,8 +1,8 @@
 // Words, octets and units put into a lent buffer, one behind the other. Every program prints by these.
 #![tactic(auto)]
 
-ghost use Rattle.std.specs.Prelude.{◌≡◌, min, length, take};
-ghost use Rattle.printed.specs.Printing.{placed, end_of, octet_digits, unit_digits, distance};
+ghost use Rattle.std.specs.Prelude.{◌≡◌, min, length};
+ghost use Rattle.printed.specs.Printing.{placed, end_of, written, octet_digits, unit_digits, distance};
 
 // n, or the room where that is less.
 fn least(n: usize, room: usize) -> usize
@@ -64,10 +64,7 @@ pub fn put_units(out: &mut [u8], at: usize, units: &[u16]) -> usize
 pub fn magnitude(n: i64) -> u64
     ensures answer { result ≡ distance n }
 {
-    if n < 0 {
-        return (-(n + 1)) as u64 + 1;
-    }
-    n as u64
+    n.unsigned_abs()
 }
 
 // A lent buffer, and where the next word goes.
@@ -89,7 +86,7 @@ impl<'a> Sheet<'a> {
 
     // What is written so far.
     pub fn written(&self) -> &[u8]
-        ensures { result.now ≡ take self.now.end self.now.buffer.now }
+        ensures { result.now ≡ written self.now.buffer.now self.now.end }
     {
         let n = self.end.min(self.buffer.len());
         &self.buffer[..n]
