@@ -319,7 +319,7 @@ fn put_septets(total: usize, numbers: Numbers, septets: &[u8], out: &mut [u8])
     requires septets_value { take (septets_over (mark_size total)) septets.now ≡ replicate (septets_over (mark_size total)) 0 }
     ensures { out.new ≡ laid (headed_octets false (cond (is_marked total) (concatenation_header numbers) []) (drop (septets_over (mark_size total)) septets.now)) out.old }
 {
-    packing::pack_short(septets, out);
+    let _ = packing::pack_short(septets, out);
     put_header(total, numbers, out);
 }
 
