@@ -74,6 +74,7 @@ pub struct Letters {
     pub second: u8,
 }
 
+// Numbers by methods and no From: they are the places of a key and the fields of C's struct, and `number` says so where `u8::from` would not.
 impl Alphabet {
     // Its number, from 0.
     pub fn number(self) -> u8

@@ -89,7 +89,8 @@ pub fn short_octet(key: u32) -> Option<u8>
     checked(octet, short_keys::short_key(octet), key)
 }
 
-// The smallest octet of a broadcast page or USSD with that key, likewise.
+// The smallest octet of a broadcast page or USSD with that key, likewise. A second function: with the octets of plain text, what is tried and
+// what reads it as parameters, one of both would only name its parts.
 pub fn page_octet(key: u32) -> Option<u8>
     ensures answer { result ≡ octet_or_none (page_octet key) }
 {
