@@ -1,9 +1,10 @@
 // The blocks of a message of several pages joined, in whatever order they come, into its text.
 #![tactic(auto)]
 
-ghost use Rattle.std.specs.Prelude.{◌≡◌, true, false, ◌*◌, ◌≤◌, length};
+ghost use Rattle.std.specs.Prelude.{◌≡◌, ℕ, get_or, true, false, ◌+◌, ◌*◌, ◌<◌, ◌≤◌, length};
 ghost use Rattle.lists.specs.Lists.{laid};
-ghost use Rattle.pages.specs.Joined.{header_at, total_at, wrong_pages, joined_from, join_answers, join_leaves};
+ghost use Rattle.pages.specs.Blocks.{text_in};
+ghost use Rattle.pages.specs.Joined.{header_at, total_at, block_at, place_of, wrong_pages, joined_from, join_answers, join_leaves};
 ghost use Rattle.pages.specs.Inner.{held_joins, held_join_leaves, text_joins, text_join_leaves, Places};
 
 use coding::Reading;
@@ -57,77 +58,84 @@ fn join_text(ucs2: bool, total: usize, blocks: &[u8], out: &mut [u16]) -> Result
     ensures answer { result ≡ text_joins ucs2 blocks.now (length out.old) }
     ensures buffer { out.new ≡ text_join_leaves ucs2 blocks.now out.old }
 {
-    let order = ordering::page_order(blocks);
-    if !order.right {
+    let Some(places) = ordering::page_order(blocks) else {
         return Err(Refusal::WrongPages);
-    }
-    let places = order.places;
+    };
+    let pages = Pages {
+        blocks,
+        places,
+        total,
+    };
     if ucs2 {
-        return join_units(places, total, blocks, out);
-    }
-    join_septets(places, total, blocks, out)
-}
-
-// 7-bit text: the septets of all pages in an array of our own, without the CRs that close them, read by the alphabet.
-fn join_septets(
-    places: [usize; 16],
-    total: usize,
-    blocks: &[u8],
-    out: &mut [u16],
-) -> Result<usize, Refusal>
-    requires { (wrong_pages blocks.now ≡ false) × (total ≡ total_at blocks.now 0) × Places blocks.now places }
-    ensures answer { result ≡ text_joins false blocks.now (length out.old) }
-    ensures buffer { out.new ≡ text_join_leaves false blocks.now out.old }
-{
-    let mut septets = [0u8; 1395];
-    unpack_pages(places, total, blocks, &mut septets);
-    let all = 93 * total;
-    let n = closing::text_length(Service::Broadcast, &septets[..all]);
-    to_text::septets_to_text(&septets[..n], out)
-}
-
-// Lays the septets of all pages over the front of out, in the order of the pages.
-fn unpack_pages(places: [usize; 16], total: usize, blocks: &[u8], out: &mut [u8])
-    requires { (wrong_pages blocks.now ≡ false) × (total ≡ total_at blocks.now 0) × Places blocks.now places × (93 * total ≤ length out.old) }
-    ensures { out.new ≡ laid (joined_from false blocks.now 1 total) out.old }
-{
-    let mut k: usize = 0;
-    while k < total {
-        let at = 93 * k;
-        k += 1;
-        let block = blocks::block_at(blocks, places[k] - 1);
-        let _ = packing::unpack_all(Service::Broadcast, &block[6..], 0, &mut out[at..]);
+        pages.join_units(out)
+    } else {
+        pages.join_septets(out)
     }
 }
 
-// UCS2: the units of all pages in an array of our own, without the CRs that close them.
-fn join_units(
+// The blocks of one message, how many pages it has, and of each, by its number, one more than its place among the blocks.
+#[derive(Drop)]
+struct Pages<'a> {
+    blocks: &'a [u8],
     places: [usize; 16],
     total: usize,
-    blocks: &[u8],
-    out: &mut [u16],
-) -> Result<usize, Refusal>
-    requires { (wrong_pages blocks.now ≡ false) × (total ≡ total_at blocks.now 0) × Places blocks.now places }
-    ensures answer { result ≡ text_joins true blocks.now (length out.old) }
-    ensures buffer { out.new ≡ text_join_leaves true blocks.now out.old }
-{
-    let mut units = [0u16; 615];
-    take_pages(places, total, blocks, &mut units);
-    let all = 41 * total;
-    let n = to_units::kept(&units[..all]);
-    to_units::store(&units[..n], out)
+    ghost octets: { (k : ℕ) → get_or blocks.now k 0 < 256 },
+    ghost right: { wrong_pages blocks.now ≡ false },
+    ghost counted: { total ≡ total_at blocks.now 0 },
+    ghost placed: { Places blocks.now places },
 }
 
-// Lays the units of all pages over the front of out, in the order of the pages.
-fn take_pages(places: [usize; 16], total: usize, blocks: &[u8], out: &mut [u16])
-    requires { (wrong_pages blocks.now ≡ false) × (total ≡ total_at blocks.now 0) × Places blocks.now places × (41 * total ≤ length out.old) }
-    ensures { out.new ≡ laid (joined_from true blocks.now 1 total) out.old }
-{
-    let mut k: usize = 0;
-    while k < total {
-        let at = 41 * k;
-        k += 1;
-        let block = blocks::block_at(blocks, places[k] - 1);
-        to_units::lay_units(&block[6..], &mut out[at..]);
+impl Pages<'_> {
+    // The text of page k, counted from 0: what stands behind its header.
+    fn text(&self, k: usize) -> &[u8]
+        requires { k < self.now.total }
+        ensures { result.now ≡ text_in (block_at self.now.blocks.now (place_of self.now.blocks.now (1 + k))) }
+    {
+        let at = 88 * (self.places[1 + k] - 1);
+        &self.blocks[at + 6..at + 88]
+    }
+
+    // 7-bit text: the septets of all pages in an array of our own, without the CRs that close them, read by the alphabet.
+    fn join_septets(&self, out: &mut [u16]) -> Result<usize, Refusal>
+        ensures answer { result ≡ text_joins false self.now.blocks.now (length out.old) }
+        ensures buffer { out.new ≡ text_join_leaves false self.now.blocks.now out.old }
+    {
+        let mut septets = [0u8; 1395];
+        self.unpack(&mut septets);
+        let n = closing::text_length(Service::Broadcast, &septets[..93 * self.total]);
+        to_text::septets_to_text(&septets[..n], out)
+    }
+
+    // Lays the septets of all pages over the front of out, in the order of the pages.
+    fn unpack(&self, out: &mut [u8])
+        requires { 93 * self.now.total ≤ length out.old }
+        ensures { out.new ≡ laid (joined_from false self.now.blocks.now 1 self.now.total) out.old }
+    {
+        for k in 0..self.total {
+            let _ = packing::unpack_all(Service::Broadcast, self.text(k), 0, &mut out[93 * k..]);
+        }
+    }
+
+    // What lays, closes and reads a text is another call in each of the two, over another element: a trait of three methods for both
+    // is longer than these two and their loops of one line.
+    // UCS2: the units of all pages in an array of our own, without the CRs that close them.
+    fn join_units(&self, out: &mut [u16]) -> Result<usize, Refusal>
+        ensures answer { result ≡ text_joins true self.now.blocks.now (length out.old) }
+        ensures buffer { out.new ≡ text_join_leaves true self.now.blocks.now out.old }
+    {
+        let mut units = [0u16; 615];
+        self.take(&mut units);
+        let n = to_units::kept(&units[..41 * self.total]);
+        to_units::store(&units[..n], out)
+    }
+
+    // Lays the units of all pages over the front of out, in the order of the pages.
+    fn take(&self, out: &mut [u16])
+        requires { 41 * self.now.total ≤ length out.old }
+        ensures { out.new ≡ laid (joined_from true self.now.blocks.now 1 self.now.total) out.old }
+    {
+        for k in 0..self.total {
+            to_units::lay_units(self.text(k), &mut out[41 * k..]);
+        }
     }
 }

@@ -1,96 +1,77 @@
-// Which of the blocks holds which page: whether they are the pages of one message, and where each page stands.
+// Which of the blocks holds which page: where each page stands, if they are the pages of one message.
 #![tactic(auto)]
 
-ghost use Rattle.std.specs.Prelude.{◌≡◌, not, ◌&&◌, ◌<◌, eqb, get_or};
-ghost use Rattle.lists.specs.Lists.{numbers_from};
-ghost use Rattle.filling.specs.Numbered.{lacks, some_of};
+ghost use Rattle.std.specs.Prelude.{◌≡◌, not, ◌&&◌, ◌<◌, eqb};
+ghost use Rattle.std.specs.List.{list_all};
+ghost use Rattle.filling.specs.Numbered.{lacks};
 ghost use Rattle.pages.specs.Blocks.{header_of};
 ghost use Rattle.pages.specs.Joined.{same_octets, of_one_message};
 ghost use Rattle.pages.specs.Ordered.{order_of};
-ghost use Rattle.pages.specs.Inner.{wrong_order};
 
-use pages::Order;
-
-// Judges the pages in one pass over the blocks, which ends at the first that is wrong: of more than 15 blocks one is. It refuses nothing: what is wrong
-// has no places.
-pub fn page_order(blocks: &[u8]) -> Order
+// Of each page, by its number, one more than its place among the blocks: 0 is none. Judges the pages in one pass over the blocks, which ends at the first
+// that is wrong: of more than 15 blocks one is. It refuses nothing: what is wrong has no places.
+pub fn page_order(blocks: &[u8]) -> Option<[usize; 16]>
     ensures answer { result ≡ order_of blocks.now }
 {
-    let count = blocks.len() / 88;
-    if count == 0 {
-        return wrong_order();
-    }
-    let first = blocks::block_at(blocks, 0);
-    let head = blocks::read_header(first);
+    let (pages, _) = blocks.as_chunks::<88>();
+    let first = pages.first()?;
     let mut places = [0usize; 16];
-    let mut i: usize = 0;
-    while i < count {
-        let block = blocks::block_at(blocks, i);
-        if !belongs(first, block) {
-            return wrong_order();
+    for (i, page) in pages.iter().enumerate() {
+        if !belongs(first, page) {
+            return None;
         }
-        let k = number_in(block);
+        let k = number_in(page);
         if places[k] != 0 {
-            return wrong_order();
+            return None;
         }
-        i += 1;
-        places[k] = i;
+        places[k] = i + 1;
     }
-    if !all_there(places, head.total as usize) {
-        return wrong_order();
+    let total = blocks::read_header(*first).total as usize;
+    if !all_there(&places[1..=total]) {
+        return None;
     }
-    Order {
-        right: true,
-        places: places,
-    }
-}
-
-// The answer of pages that are wrong.
-fn wrong_order() -> Order
-    ensures { result ≡ wrong_order }
-{
-    Order {
-        right: false,
-        places: [0usize; 16],
-    }
+    Some(places)
 }
 
 // The number of the page in a block.
-fn number_in(block: [u8; 88]) -> usize
-    ensures { (result ≡ (header_of block).number) × (result < 16) }
+fn number_in(block: &[u8; 88]) -> usize
+    ensures { (result ≡ (header_of block.now).number) × (result < 16) }
 {
-    let head = blocks::read_header(block);
-    head.number as usize
+    blocks::read_header(*block).number as usize
 }
 
 // Whether a block is of the message of the first one, and its number is from 1 to the total.
-fn belongs(first: [u8; 88], block: [u8; 88]) -> bool
-    ensures { result ≡ (of_one_message first block && not (lacks (header_of block).total (header_of block).number)) }
+fn belongs(first: &[u8; 88], block: &[u8; 88]) -> bool
+    ensures { result ≡ (of_one_message first.now block.now && not (lacks (header_of block.now).total (header_of block.now).number)) }
 {
-    let of = blocks::read_header(first);
-    let head = blocks::read_header(block);
-    same_head(first, block)
-        && (of.total == head.total && (head.number != 0 && head.number <= head.total))
+    let head = blocks::read_header(*block);
+    of_one_message(first, block) && !lacks(head.total, head.number)
+}
+
+// Whether two blocks have the same octets 1 to 5 and the same total.
+fn of_one_message(a: &[u8; 88], b: &[u8; 88]) -> bool
+    ensures { result ≡ of_one_message a.now b.now }
+{
+    same_head(a, b) && blocks::read_header(*a).total == blocks::read_header(*b).total
+}
+
+// Whether a number is not from 1 to the total.
+fn lacks(total: u8, number: u8) -> bool
+    ensures { result ≡ lacks total number }
+{
+    number == 0 || total < number
 }
 
 // Whether octets 1 to 5 of two blocks are the same.
-fn same_head(a: [u8; 88], b: [u8; 88]) -> bool
-    ensures { result ≡ same_octets 5 a b }
+fn same_head(a: &[u8; 88], b: &[u8; 88]) -> bool
+    ensures { result ≡ same_octets 5 a.now b.now }
 {
-    a[4] == b[4] && (a[3] == b[3] && (a[2] == b[2] && (a[1] == b[1] && a[0] == b[0])))
+    a[..5] == b[..5]
 }
 
-// Whether each page from 1 to the total has its place.
-fn all_there(places: [usize; 16], total: usize) -> bool
-    requires { total < 16 }
-    ensures { result ≡ not (some_of (λ k. eqb (get_or places k 0) 0) (numbers_from 1 total)) }
+// Whether each of these places is one.
+fn all_there(places: &[usize]) -> bool
+    ensures { result ≡ list_all (λ place. not (eqb place 0)) places.now }
 {
-    let mut k: usize = 0;
-    while k < total {
-        k += 1;
-        if places[k] == 0 {
-            return false;
-        }
-    }
-    true
+    places.iter().all(|place| *place != 0)
 }

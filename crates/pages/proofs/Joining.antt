@@ -4,13 +4,14 @@ use mathlib.Core.Path.{◌≡◌, refl, ap, ap₂, ◌∙◌, sym, subst}
 use mathlib.Core.Bool.{Bool, true, false, cond}
 use mathlib.Core.List.{List, [], ◌++◌, append_assoc, append-nil}
 use Prim.Native.Nat.{ℕ, zero, suc, ◌+◌, ◌-◌, ◌*◌, ◌/◌, ◌%◌, ◌≤◌, ◌<◌}
-use native.Mathlib.Nat.{add-zero, add_comm, mul-suc, mul-zero}
+use native.Mathlib.Nat.{add-zero, mul-suc, mul-zero}
 use native.Mathlib.Numerals.{add-one}
 use native.Mathlib.Omega.{arith}
 use lib.Dec.{lit<, leb, eqb}
-use lib.ListN.{length, get_or, take, drop, replicate, length-append, length-drop, drop_of_length-le}
+use lib.ListN.{length, get_or, take, drop, length-append, length-drop, drop_of_length-le}
 use lib.Seq.{length-take-le, take_all, take_at, take-take, drop-drop}
-use borrow.Author.Tests.{not-true, not-false, lt-ltb, le-ltb, lt-leb, eq-eqb, ne_eqb}
+use Rattle.std.proofs.lemmas.List.{drop-take}
+use borrow.Author.Tests.{le-ltb, lt-leb, eq-eqb, ne_eqb}
 use Rattle.words.specs.declared.Service.TheVariants.{Broadcast}
 use Rattle.words.specs.declared.Refusal.{Refusal}
 use Rattle.words.specs.declared.Refusal.TheVariants.{WrongLength, WrongPages}
@@ -39,7 +40,6 @@ use Rattle.coding.proofs.Prefixed.{read-given}
 use Rattle.demands.proofs.Steps.{held-verdict, leaves-agree, held_as, told_text, holds-text}
 use Rattle.letters.specs.Reading.{text_of, text_rules, text_answers, text_leaves}
 use Rattle.pages.specs.declared.Header.{Header}
-use Rattle.pages.specs.declared.Order.{Order}
 use Rattle.pages.specs.Blocks.{header_of, text_in}
 use Rattle.pages.specs.Parts.{page_room}
 use Rattle.pages.specs.Joined.{block_count, block_at, header_at, number_at, total_at, place_of, wrong_pages, page_content, joined_from, joined_content, joined_text, joined_reading, page_rules, join_rules, join_answers, join_leaves}
@@ -47,7 +47,8 @@ use Rattle.pages.specs.Ordered.{block_or_zeros, table_of, no_order, order_of}
 use Rattle.pages.proofs.Placing.{right-read-once, total-small}
 use Rattle.pages.proofs.Table.{block_here}
 use Rattle.pages.specs.Inner.{text_joins, text_join_leaves, held_joins, held_join_leaves, joined_as, Places}
-use Rattle.std.specs.Prelude.{Ok, Err}
+use Rattle.std.specs.Prelude.{Ok, Err, Some, None}
+use Rattle.std.proofs.lemmas.Option.{none-some, same_Some}
 use Rattle.pages.specs.Successes.{ok_joined}
 
 -- ---- a page that is there
@@ -69,11 +70,28 @@ block-whole o i h = length-take-le 88 (drop (88 * i) o) (omega (arith, length-dr
 text-whole : (o : List ℕ) (i : ℕ) → i < block_count o → length (text_in (block_at o i)) ≡ 82
 text-whole o i h = omega (arith, length-drop 6 (block_at o i), block-whole o i h)
 
--- the block of page k is the one at its place in the table
-page-there : (o places : List ℕ) (k : ℕ) → wrong_pages o ≡ false → Places o places → 1 ≤ k → k ≤ total_at o 0 → block_or_zeros o (get_or places k 0 - 1) ≡ block_at o (place_of o k)
-page-there o places k right table low high =
-    let at : get_or places k 0 - 1 ≡ place_of o k = omega (arith, table k low high) in
-    rw at (block_here o (place_of o k) (page-placed o k right low high))
+-- the text of page k is what stands behind six octets of the block at its place in the table
+module _ (o places : List ℕ) (k : ℕ) (right : wrong_pages o ≡ false) (table : Places o places) (low : 1 ≤ k) (high : k ≤ total_at o 0) where
+  -- where this block begins
+  page-at : get_or places k 0 - 1 ≡ place_of o k
+  page-at = omega (arith, table k low high)
+
+  pub page-within : (1 ≤ get_or places k 0) × (88 * (get_or places k 0 - 1) + 88 ≤ length o) × (get_or places k 0 ≤ 16)
+  page-within = (
+    omega (arith, table k low high),
+    omega (arith, page-at, page-placed o k right low high),
+    omega (arith, table k low high, page-placed o k right low high, (right-read-once o right).count, total-below o 0),
+  )
+
+  pub page-text : (n : ℕ) → n ≡ 88 * (get_or places k 0 - 1) → take (n + 88 - (n + 6)) (drop (n + 6) o) ≡ text_in (block_at o (place_of o k))
+  unfolding block_at
+  page-text n e =
+      let size : n + 88 - (n + 6) ≡ 82 = omega arith in
+      let at : n ≡ 88 * place_of o k = omega (arith, e, page-at) in
+      ap (λ (m : ℕ). take m (drop (n + 6) o)) size
+      ∙ ap (take 82) (sym (drop-drop 6 n o))
+      ∙ ap (λ (m : ℕ). take 82 (drop 6 (drop m o))) at
+      ∙ sym (drop-take 6 82 (drop (88 * place_of o k) o))
 
 -- its septets are septets
 page-below : (o : List ℕ) → Below 256 o → (i : ℕ) → Below 128 (unpacked 93 (text_in (block_at o i)))
@@ -142,26 +160,23 @@ part-laid xs out a h =
     ∙ ap (λ (p : List ℕ). take a out ++ p) (append-nil (xs ++ drop (length xs) rest) ∙ ap (λ (p : List ℕ). xs ++ p) (drop-drop (length xs) a out))
     ∙ sym (append_assoc (take a out) xs (drop (a + length xs) out))
 
-module _ (ucs2 : Bool) (o places start : List ℕ) (right : wrong_pages o ≡ false) (table : Places o places) where
+module _ (ucs2 : Bool) (o start : List ℕ) (right : wrong_pages o ≡ false) where
   -- page k + 1 is stored behind the k pages before it
-  pub page-laid : (k : ℕ) (out block left : List ℕ) → k < total_at o 0 → page_room ucs2 * total_at o 0 ≤ length start → length out ≡ length start → out ≡ laid (joined_from ucs2 o 1 k) start
-      → block ≡ block_or_zeros o (get_or places (k + 1) 0 - 1)
-      → left ≡ page_leaves ucs2 (take 82 (drop 6 block)) (take (length out - page_room ucs2 * k) (drop (page_room ucs2 * k) out))
+  pub page-laid : (k : ℕ) (out text left : List ℕ) → k < total_at o 0 → page_room ucs2 * total_at o 0 ≤ length start → length out ≡ length start → out ≡ laid (joined_from ucs2 o 1 k) start
+      → text ≡ text_in (block_at o (place_of o (1 + k)))
+      → left ≡ page_leaves ucs2 text (take (length out - page_room ucs2 * k) (drop (page_room ucs2 * k) out))
       → take (page_room ucs2 * k) out ++ (left ++ drop (length out - page_room ucs2 * k) (drop (page_room ucs2 * k) out)) ≡ laid (joined_from ucs2 o 1 (k + 1)) start
-  page-laid k out block left h fits same e b l =
+  page-laid k out text left h fits same e b l =
       let a : ℕ = page_room ucs2 * k in
       let more : a + page_room ucs2 ≤ page_room ucs2 * total_at o 0 = group-within (page_room ucs2) h in
       let p : ℕ = place_of o (1 + k) in
       let t : List ℕ = text_in (block_at o p) in
       let whole : length t ≡ 82 = text-whole o p (page-placed o (1 + k) right (omega arith) (omega arith)) in
-      let is : take 82 (drop 6 block) ≡ t =
-      ap (λ (x : List ℕ). take 82 (drop 6 x)) (b ∙ ap (λ (i : ℕ). block_or_zeros o (get_or places i 0 - 1)) (add_comm k 1) ∙ page-there o places (1 + k) right table (omega arith) (omega arith))
-      ∙ take_all 82 t (omega arith) in
       let part : List ℕ = take (length out - a) (drop a out) in
       let room : page_room ucs2 ≤ length part = omega (arith, ap length (take_all (length out - a) (drop a out) (omega (arith, length-drop a out))), length-drop a out) in
       let content : List ℕ = page_content ucs2 t in
       let size : length content ≡ page_room ucs2 = content-length ucs2 t whole in
-      ap (λ (x : List ℕ). take a out ++ (x ++ drop (length out - a) (drop a out))) (l ∙ ap (λ (x : List ℕ). page_leaves ucs2 x part) is ∙ page-leaves ucs2 t part whole room)
+      ap (λ (x : List ℕ). take a out ++ (x ++ drop (length out - a) (drop a out))) (l ∙ ap (λ (x : List ℕ). page_leaves ucs2 x part) b ∙ page-leaves ucs2 t part whole room)
       ∙ part-laid content out a (omega arith)
       ∙ ap (λ (x : List ℕ). take a x ++ content ++ drop (a + length content) x) e
       ∙ laid_then (joined_from ucs2 o 1 k) content start a (length content) (joined_length ucs2 o right k (omega arith)) refl
@@ -235,21 +250,26 @@ units-join o out s right e = simp (right, e) (refl, refl)
 table-places : (o : List ℕ) → wrong_pages o ≡ false → Places o (table_of o)
 table-places o right k low high = table-there (number_at o) (block_count o) 16 k (omega (arith, total-below o 0)) (page-placed o k right low high)
 
-module _ (o : List ℕ) (r : Order) (e : r ≡ order_of o) where
-  pub order-right : r.right ≡ true → (wrong_pages o ≡ false) × Places o r.places
+module _ (o : List ℕ) where
+  pub order-right : (places : List ℕ) → Some places ≡ order_of o → (wrong_pages o ≡ false) × Places o places
   unfolding order_of no_order
-  order-right t =
-      let none : no_order o ≡ false = not-true (no_order o) (sym (ap (λ (x : Order). x.right) e) ∙ t) in
-      let right : wrong_pages o ≡ false = or_right (eqb (block_count o) 0) (wrong_pages o) none in
-      let table : r.places ≡ table_of o = ap (λ (x : Order). x.places) e ∙ ap (λ (b : Bool). cond b (replicate 16 0) (table_of o)) none in
-      (right, subst (Places o) (sym table) (table-places o right))
+  order-right places e = go (no_order o) refl e
+    where
+      go : (b : Bool) → no_order o ≡ b → Some places ≡ cond b None (Some (table_of o)) → (wrong_pages o ≡ false) × Places o places
+      go true n f = absurd (none-some places (sym f))
+      go false n f =
+          let right : wrong_pages o ≡ false = or_right (eqb (block_count o) 0) (wrong_pages o) n in
+          (right, subst (Places o) (sym (same_Some places (table_of o) f)) (table-places o right))
 
-  pub order-wrong : (ucs2 : Bool) (out : List ℕ) → 88 ≤ length o → r.right ≡ false → (Err WrongPages ≡ text_joins ucs2 o (length out)) × (out ≡ text_join_leaves ucs2 o out)
+  pub order-wrong : (ucs2 : Bool) (out : List ℕ) → 88 ≤ length o → None ≡ order_of o → (Err WrongPages ≡ text_joins ucs2 o (length out)) × (out ≡ text_join_leaves ucs2 o out)
   unfolding order_of no_order text_joins text_join_leaves page_rules verdict
-  order-wrong ucs2 out some t =
-      let none : no_order o ≡ true = not-false (no_order o) (sym (ap (λ (x : Order). x.right) e) ∙ t) in
-      let wrong : wrong_pages o ≡ true = simp (ne_eqb (block_count o) 0 (omega arith)) at none in
-      simp wrong (refl, refl)
+  order-wrong ucs2 out some e = go (wrong_pages o) refl
+    where
+      go : (b : Bool) → wrong_pages o ≡ b → (Err WrongPages ≡ text_joins ucs2 o (length out)) × (out ≡ text_join_leaves ucs2 o out)
+      go true wrong = simp wrong (refl, refl)
+      go false right =
+          let none : eqb (block_count o) 0 ≡ false = ne_eqb (block_count o) 0 (omega arith) in
+          absurd (none-some (table_of o) (e ∙ simp (none, right)))
 
 -- ---- by what the coding octet of the first block is read as
 
@@ -291,8 +311,8 @@ unfolding octet_reads octet_rules verdict
 octet-read-here coding q e = let z : ◌≡◌ {A = ℕ} 0 1 = cc in omega arith
 
 pub first-header : (o : List ℕ) → 88 ≤ length o → header_of (block_or_zeros o 0) ≡ header_at o 0
-unfolding header_at block_or_zeros
-first-header o h = simp (lt-ltb 0 (block_count o) (omega arith))
+unfolding header_at
+first-header o h = ap header_of (block_here o 0 (omega arith))
 
 module _ (o out : List ℕ) where
   pub join-broken : (length o % 88 ≡ 0 → ⊥) → (Err WrongLength ≡ join_answers o (length out)) × (out ≡ join_leaves o out)

@@ -5,9 +5,8 @@
 --   text_joins, text_join_leaves              == the joining of blocks whose coding octet is read as ucs2 says, and what it leaves in the lent buffer: 10, 7
 --   held_joins, held_join_leaves              == the joining of blocks whose first has the header h and is read as r: 1, 2, 3, 10, 7
 --   joined_as h r answer                      == the answer of joining text, with the header h and the reading r
---   wrong_order                               == the order of pages that are wrong
 --   Places o places                           == the place of each page stands in the table at its number, one more than it is
-use Rattle.std.specs.Prelude.{ℕ, suc, ◌≤◌, ◌≡◌, Bool, false, List, [], ◌∷◌, ◌++◌, ltb, length, get_or, replicate, Result, Ok, Err}
+use Rattle.std.specs.Prelude.{ℕ, suc, ◌≤◌, ◌≡◌, Bool, List, [], ◌∷◌, ◌++◌, ltb, length, get_or, Result, Ok, Err}
 use Rattle.words.specs.declared.Refusal.{Refusal}
 use Rattle.words.specs.declared.Refusal.TheVariants.{TooLong, NoRoom, WrongPages}
 use Rattle.words.specs.Judging.{when, verdict, settle}
@@ -20,7 +19,6 @@ use Rattle.pages.specs.declared.Header.{Header}
 use Rattle.pages.specs.declared.Page.{Page}
 use Rattle.pages.specs.declared.PagesWritten.{PagesWritten}
 use Rattle.pages.specs.declared.Joined.{Joined}
-use Rattle.pages.specs.declared.Order.{Order}
 use Rattle.pages.specs.Parts.{most_pages, content_of, pages_holding, pages_of}
 use Rattle.pages.specs.Written.{size_rules, page_block, blocks_from}
 use Rattle.pages.specs.Joined.{total_at, place_of, joined_text, page_rules}
@@ -71,9 +69,6 @@ held_join_leaves r o out =
 abbrev pub joined_as : Header → Reading → Result ℕ Refusal → Result Joined Refusal
 joined_as h r (Ok units) = ok_joined units r h.sequence h.identifier h.total
 joined_as h r (Err q) = Err q
-
-abbrev pub wrong_order : Order
-wrong_order = record { right = false; places = replicate 16 0 }
 
 abbrev pub Places : List ℕ → List ℕ → Type 0
 Places o places = (k : ℕ) → 1 ≤ k → k ≤ total_at o 0 → get_or places k 0 ≡ suc (place_of o k)

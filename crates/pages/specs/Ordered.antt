@@ -2,10 +2,9 @@
 -- Own rule: what is wrong has no places. Cited by block_at and page_order. Assumes nothing.
 --   block_or_zeros o i == block i of the octets o, from 0, and zeros where there is none
 --   table_of o         == for each number from 0 to 15 one more than the place of the first block with it, and 0 where none has it
---   order_of o         == whether the blocks are the pages of one message, and the table of their places
-use Rattle.std.specs.Prelude.{ℕ, Bool, not, cond, ◌||◌, List, ltb, eqb, replicate}
+--   order_of o         == the table of their places, where the blocks are the pages of one message
+use Rattle.std.specs.Prelude.{ℕ, Bool, cond, ◌||◌, List, ltb, eqb, replicate, Option, Some, None}
 use Rattle.filling.specs.Numbered.{table_among}
-use Rattle.pages.specs.declared.Order.{Order}
 use Rattle.pages.specs.Blocks.{block_size}
 use Rattle.pages.specs.Joined.{block_count, block_at, number_at, wrong_pages}
 
@@ -19,5 +18,5 @@ table_of o = table_among (number_at o) (block_count o) 16
 unfoldable pub no_order : List ℕ → Bool
 no_order o = eqb (block_count o) 0 || wrong_pages o
 
-unfoldable pub order_of : List ℕ → Order
-order_of o = record { right = not (no_order o); places = cond (no_order o) (replicate 16 0) (table_of o) }
+unfoldable pub order_of : List ℕ → Option (List ℕ)
+order_of o = cond (no_order o) None (Some (table_of o))

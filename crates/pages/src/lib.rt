@@ -45,10 +45,3 @@ pub struct Joined {
     pub identifier: u16,
     pub pages: usize,
 }
-
-// Whether blocks are the pages of one message, and of each page, by its number, one more than its place among the blocks: 0 is none.
-#[derive(Clone, Copy)]
-pub struct Order {
-    pub right: bool,
-    pub places: [usize; 16],
-}

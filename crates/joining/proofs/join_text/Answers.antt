@@ -1,17 +1,17 @@
--- The order of the pages says whether they are wrong, and where each stands; the rest is joined as UCS2 or by septets.
+-- Where the pages have no order they are wrong; the rest is joined as UCS2 or by septets.
 -- Assumes nothing.
-use borrow.Author.Tests.{not-true, not-false}
+use Rattle.std.proofs.Common.{rules}
 use Rattle.pages.proofs.Joining.{order-right, order-wrong}
 use Rattle.words.proofs.Clauses.{answered}
 use Rattle.joining.proofs.join_text.Goals as goal
 
-pub returns-then-not-order : goal.returns-then-not-order
-returns-then-not-order c = answered (order-wrong c.args.blocks.now c.page_order-order.result c.page_order-order.ensures.answer c.args.ucs2 c.args.out.now c.requires.0 (not-true _ c.if-not-order.true))
+pub returns-in_default : goal.returns-in_default
+returns-in_default c = answered (order-wrong c.args.blocks.now c.args.ucs2 c.args.out.now c.requires.0 c.in_default.ensures.answer)
 
-pub join_units-requires : goal.join_units-requires
-join_units-requires c = let right = order-right c.args.blocks.now c.page_order-order.result c.page_order-order.ensures.answer (not-false _ c.if-not-order.false) in
-    (right.0, c.requires.1, right.1)
+pub invariant_of-pages : goal.invariant_of-pages
+invariant_of-pages c = let right = order-right c.args.blocks.now _ c.in-Some.ensures.answer in
+    record { octets = λ k. search rules; right = right.0; counted = c.requires.1; placed = right.1 }
 
-pub join_septets-requires : goal.join_septets-requires
-join_septets-requires c = let right = order-right c.args.blocks.now c.page_order-order.result c.page_order-order.ensures.answer (not-false _ c.if-not-order.false) in
-    (right.0, c.requires.1, right.1)
+pub invariant_of-pages-else-ucs2 : goal.invariant_of-pages-else-ucs2
+invariant_of-pages-else-ucs2 c = let right = order-right c.args.blocks.now _ c.in-Some.ensures.answer in
+    record { octets = λ k. search rules; right = right.0; counted = c.requires.1; placed = right.1 }
