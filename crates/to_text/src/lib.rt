@@ -1,10 +1,10 @@
 // Septets to text, by the present alphabet and by that of an old page.
 #![tactic(auto)]
 
-use words::Refusal;
 ghost use Rattle.std.specs.Prelude.{◌≡◌, length};
 ghost use Rattle.letters.specs.Reading.{text_of, old_text_of, text_answers, text_leaves};
 
+use words::Refusal;
 
 mod own;
 mod reading;

@@ -1,5 +1,5 @@
 // Septets to text, for the present alphabet and for an old page: the passes that judge and count, and the pass that writes.
-ghost use Rattle.std.specs.Prelude.{◌≡◌, true, false, ◌⊎◌, ◌+◌, ◌≤◌, ◌<◌, length, take, drop, set};
+ghost use Rattle.std.specs.Prelude.{◌≡◌, true, false, ◌⊎◌, ◌+◌, ◌≤◌, ◌<◌, length, take, drop, set, ltb};
 ghost use Rattle.lists.specs.Lists.{first_wide, laid};
 ghost use Rattle.letters.specs.Reading.{read_as, text_answers, text_leaves};
 ghost use Rattle.letters.specs.Inner.{OwnFrom, first_read, Stepped};
@@ -62,6 +62,13 @@ fn units_in(septets: &[u8], old: bool) -> usize
     n
 }
 
+// Whether a buffer is too short for the text. Units are never more than septets, so only one that is shorter than those is measured.
+fn is_short(septets: &[u8], old: bool, room: usize) -> bool
+    ensures { result ≡ ltb room (length (read_as old septets.now)) }
+{
+    room < septets.len() && room < units_in(septets, old)
+}
+
 // Lays the text of the septets over the front of the buffer, and answers how many units it has. The first septets are their own units, and
 // stand in the buffer already.
 fn lay_text(septets: &[u8], old: bool, front: usize, out: &mut [u16]) -> usize
@@ -94,11 +101,13 @@ fn wide_behind(septets: &[u8], front: usize) -> usize
     if 8 <= len {
         let left = len - front;
         if left <= 8 {
-            if own::eight_bits(septets, len - 8) < 128 {
+            if wide::all_bits(&septets[len - 8..]) < 128 {
                 return len;
             }
         } else if left <= 16 {
-            if own::eight_bits(septets, front) | own::eight_bits(septets, len - 8) < 128 {
+            if wide::all_bits(&septets[front..front + 8]) | wide::all_bits(&septets[len - 8..])
+                < 128
+            {
                 return len;
             }
         }
@@ -108,7 +117,6 @@ fn wide_behind(septets: &[u8], front: usize) -> usize
 }
 
 // Septets to text: the front that is its own units is copied, the rest is judged, and read by a table.
-// Units are never more than septets, so only a buffer that is shorter than those is measured.
 pub(crate) fn read_text(septets: &[u8], old: bool, out: &mut [u16]) -> Result<usize, Refusal>
     ensures answer { result ≡ text_answers septets.now (read_as old septets.now) (length out.old) }
     ensures buffer { out.new ≡ text_leaves septets.now (read_as old septets.now) out.old }
@@ -118,12 +126,10 @@ pub(crate) fn read_text(septets: &[u8], old: bool, out: &mut [u16]) -> Result<us
     if wide < septets.len() {
         return Err(Refusal::NoSeptet { septet: wide });
     }
-    if out.len() < septets.len() {
-        if out.len() < units_in(septets, old) {
-            return Err(Refusal::NoRoom);
-        }
+    if is_short(septets, old, out.len()) {
+        return Err(Refusal::NoRoom);
     }
-    own::copy_septets(septets, front, out);
+    own::copy_septets(&septets[..front], out);
     if septets.len() <= front {
         return Ok(front);
     }

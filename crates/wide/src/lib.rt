@@ -5,8 +5,8 @@ ghost use Rattle.std.specs.Prelude.{◌≡◌, fold, bit_or};
 ghost use Rattle.lists.specs.Lists.{first_wide};
 
 // The bits that any septet has: one test of the result judges them all. The fold vectorises, sixteen septets at a time.
-fn all_bits(septets: &[u8]) -> u8
-    ensures { result ≡ fold bit_or 0 septets.now }
+pub fn all_bits(septets: &[u8]) -> u8
+    ensures answer { result ≡ fold bit_or 0 septets.now }
 {
     septets.iter().fold(0, |bits, septet| bits | septet)
 }

@@ -2,64 +2,65 @@
 -- and the last eight of them.
 -- Assumes nothing.
 use mathlib.Core.Path.{◌≡◌, ap, ◌∙◌, sym}
+use mathlib.Core.List.{List}
 use Prim.Native.Nat.{ℕ, ◌+◌, ◌-◌, ◌≤◌, ◌<◌}
 use native.Mathlib.Decide.{dec_le}
 use native.Mathlib.Omega.{arith}
 use lib.Dec.{leb}
-use lib.ListN.{length, get_or, drop, length-drop}
+use lib.ListN.{length, get_or, take, drop, length-drop}
 use lib.Seq.{take_all}
 use borrow.Author.Tests.{lt-leb}
 use Rattle.lists.specs.Lists.{first_wide}
-use Rattle.lists.proofs.Places.{passed_over, place-most, place_none}
+use Rattle.lists.proofs.Places.{place-most, place_none}
+use Rattle.letters.specs.Inner.{OwnFrom}
 use Rattle.letters.proofs.OwnCodes.{own-narrow}
-use Rattle.to_text.proofs.Narrow.{or_left, or_right}
-use Rattle.to_text.proofs.reading.wide_behind.Lts as lts
-use Rattle.to_text.proofs.reading.wide_behind.Reads as reads
-use Rattle.to_text.proofs.reading.wide_behind.Tie as tie
+use Rattle.to_text.proofs.Narrow.{or_left, or_right, narrow-part}
 use Rattle.to_text.proofs.reading.wide_behind.Goals as goal
 
-pub returns-then-front-len : goal.returns-then-front-len
-returns-then-front-len c = record {
-  answer = let a = c.args in
-      sym (passed_over (leb 128) a.septets.now (length a.septets.now) (own-narrow a.septets.now (length a.septets.now) (omega arith) (λ k l. c.requires.1 k (omega (arith, l, c.if-front-len.true)))) (omega arith));
-}
-
 -- none is 128 or more where none behind the front is
-narrow : (c : lts.Start tie.the-claims reads.Pre reads.Post tie.handed_clauses) → ((k : ℕ) → k < length c.args.septets.now → c.args.front ≤ k → get_or c.args.septets.now k 0 < 128) → length c.args.septets.now ≡ first_wide c.args.septets.now
-narrow c behind =
-    let s = c.args.septets.now in
+narrow : (s : List ℕ) (front : ℕ) → OwnFrom s 0 front → ((k : ℕ) → k < length s → front ≤ k → get_or s k 0 < 128) → length s ≡ first_wide s
+narrow s front own behind =
     sym (place_none (leb 128) s (λ k l. lt-leb 128 (get_or s k 0)
-    (elim (dec_le c.args.front k) [
+    (elim (dec_le front k) [
       | yes h ↦ behind k l h
-      | no h ↦ (c.requires.1 k (omega (arith, h)) (omega arith)).below
+      | no h ↦ (own k (omega (arith, h)) (omega arith)).below
     ])))
 
-pub returns-then-eight_bits-lt128 : goal.returns-then-eight_bits-lt128
-returns-then-eight_bits-lt128 c = record { answer = narrow c.before.before.before.before.before.before.before (λ k l h. c.eight_bits.ensures c.if-eight_bits-lt128.true k (omega (arith, l, c.if-len-ge8.true)) (omega (arith, c.if-left-le8.true, h))) }
+pub returns-then-front-len : goal.returns-then-front-len
+returns-then-front-len c = record { answer = narrow c.args.septets.now c.args.front c.requires.1 (λ k l h. absurd (omega (arith, c.if-front-len.true))) }
 
-pub returns-then-eight_bits-lt128-2 : goal.returns-then-eight_bits-lt128-2
-returns-then-eight_bits-lt128-2 c = record {
-  answer = narrow c.before.before.before.before.before.before.before.before.before (λ k l h.
-      elim (dec_le (c.args.front + 8) k) [
-        | yes m ↦ c.eight_bits-then-left-le16-2.ensures (or_right c.eight_bits-then-left-le16.result c.eight_bits-then-left-le16-2.result c.if-eight_bits-lt128-2.true) k (omega (arith, l, c.if-len-ge8.true)) (omega (arith, c.if-left-le16.true, m))
-        | no m ↦ c.eight_bits-then-left-le16.ensures (or_left c.eight_bits-then-left-le16.result c.eight_bits-then-left-le16-2.result c.if-eight_bits-lt128-2.true) k (omega (arith, m)) h
-      ]);
-}
+pub returns-then-all_bits-lt128 : goal.returns-then-all_bits-lt128
+returns-then-all_bits-lt128 c =
+    let s = c.args.septets.now in
+    record {
+      answer = narrow s c.args.front c.requires.1 (λ k l h. narrow-part s (length s - 8) (length s) c.all_bits.result (omega arith) c.all_bits.ensures.answer c.if-all_bits-lt128.true k l (omega arith));
+    }
+
+pub returns-then-all_bits-lt128-2 : goal.returns-then-all_bits-lt128-2
+returns-then-all_bits-lt128-2 c =
+    let s = c.args.septets.now in
+    let front : ℕ = c.args.front in
+    let first : ℕ = c.all_bits-then-left-le16.result in
+    let last : ℕ = c.all_bits-then-left-le16-2.result in
+    record {
+      answer = narrow s front c.requires.1 (λ k l h.
+          elim (dec_le (front + 8) k) [
+            | yes m ↦ narrow-part s (length s - 8) (length s) last (omega arith) c.all_bits-then-left-le16-2.ensures.answer (or_right first last c.if-all_bits-lt128-2.true) k l (omega arith)
+            | no m ↦ narrow-part s front (front + 8) first (omega arith) c.all_bits-then-left-le16.ensures.answer (or_left first last c.if-all_bits-lt128-2.true) k (omega arith) h
+          ]);
+    }
 
 -- the septets that were looked at are the rest
-rest : (c : lts.After-first_wide tie.the-claims reads.Pre reads.Post tie.handed_clauses)
-    → c.first_wide-wide.result ≡ first_wide (drop c.args.front c.args.septets.now)
-rest c =
-    let a = c.args in
-    let few : length (drop a.front a.septets.now) ≤ length a.septets.now - a.front = omega (arith, length-drop a.front a.septets.now) in
-    c.first_wide-wide.ensures.answer ∙ ap first_wide (take_all (length a.septets.now - a.front) (drop a.front a.septets.now) few)
+rest : (s : List ℕ) (front found : ℕ) → found ≡ first_wide (take (length s - front) (drop front s)) → found ≡ first_wide (drop front s)
+rest s front found e = e ∙ ap first_wide (take_all (length s - front) (drop front s) (omega (arith, length-drop front s)))
 
 pub overflow_add-result : goal.overflow_add-result
-overflow_add-result c = let a = c.args in
-    omega (arith, rest c.before, place-most (leb 128) (drop a.front a.septets.now), length-drop a.front a.septets.now)
+overflow_add-result c =
+    let s = c.args.septets.now in
+    omega (arith, rest s c.args.front c.first_wide-wide.result c.first_wide-wide.ensures.answer, place-most (leb 128) (drop c.args.front s), length-drop c.args.front s, c.requires.0)
 
 pub returns : goal.returns
-returns c = record {
-  answer = let a = c.args in
-      ap (λ (k : ℕ). a.front + k) (rest c.before) ∙ sym (own-narrow a.septets.now a.front c.requires.0 c.requires.1);
-}
+returns c =
+    let s = c.args.septets.now in
+    let front : ℕ = c.args.front in
+    record { answer = ap (λ (k : ℕ). front + k) (rest s front c.first_wide-wide.result c.first_wide-wide.ensures.answer) ∙ sym (own-narrow s front c.requires.0 c.requires.1) }
