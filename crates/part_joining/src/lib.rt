@@ -7,9 +7,10 @@ ghost use Rattle.lists.proofs.Below.{Below};
 ghost use Rattle.letters.specs.Reading.{text_of};
 ghost use Rattle.stream.specs.Storing.{given_answers, given_leaves};
 ghost use Rattle.parted.specs.Joined.{start_at, part_in, place_of, joined_content, joined_text, join_answers, join_leaves};
-ghost use Rattle.parted.specs.InnerJoined.{held_joins, held_join_leaves, text_joins, text_join_leaves, joined_as, Sorted, numbered_content, over_in, run_behind, run_read, run_open, run_in, Ready};
+ghost use Rattle.parted.specs.InnerJoined.{held_joins, held_join_leaves, text_joins, text_join_leaves, Sorted, numbered_content, over_in, run_behind, run_read, run_open, run_in, Ready};
 
-use coding::{Held, Reading};
+use coding::Reading;
+use part_order::{Parts, Tables};
 use parted::PartsJoined;
 use words::{Refusal, Service};
 
@@ -18,67 +19,59 @@ use words::{Refusal, Service};
 // Refuses compressed text (1), a coding that holds no text (2), octets that are not what the counts ask (4), a header that is longer than its part or,
 // in septets, than its count, or whose elements are wrong (12), an odd octet of UCS2 behind a header (4), parts that are not those of one message (10),
 // a short buffer (7): each over all parts before the next. Stores the units at the front of out; a refusal stores nothing.
-pub fn join_parts(coding: u8, counts: &[u8], octets: &[u8], out: &mut [u16]) -> Result<PartsJoined, Refusal>
-    ensures answer { result ≡ join_answers coding counts.now octets.now (length out.old) }
-    ensures buffer { out.new ≡ join_leaves coding counts.now octets.now out.old }
-{
-    match coding::read_octet(Service::ShortMessage, coding) {
-        Ok(reading) => join_held(reading, counts, octets, out),
-        Err(refusal) => Err(refusal),
-    }
-}
-
-// The same behind the coding octet.
-fn join_held(reading: Reading, counts: &[u8], octets: &[u8], out: &mut [u16]) -> Result<PartsJoined, Refusal>
-    ensures answer { result ≡ held_joins reading counts.now octets.now (length out.old) }
-    ensures buffer { out.new ≡ held_join_leaves reading counts.now octets.now out.old }
-{
-    match reading.holds(Service::ShortMessage) {
-        Ok(Held::Septets) => join_text(reading, false, counts, octets, out),
-        Ok(Held::Units) => join_text(reading, true, counts, octets, out),
-        Err(refusal) => Err(refusal),
-    }
-}
-
-// Joins the text of parts, as 7-bit text or as UCS2: 4, 12, 4, 10, 7.
-fn join_text(
-    reading: Reading,
-    ucs2: bool,
+pub fn join_parts(
+    coding: u8,
     counts: &[u8],
     octets: &[u8],
     out: &mut [u16],
 ) -> Result<PartsJoined, Refusal>
-    ensures answer { result ≡ text_joins reading ucs2 counts.now octets.now (length out.old) }
-    ensures buffer { out.new ≡ text_join_leaves ucs2 counts.now octets.now out.old }
+    ensures answer { result ≡ join_answers coding counts.now octets.now (length out.old) }
+    ensures buffer { out.new ≡ join_leaves coding counts.now octets.now out.old }
 {
-    let mut places = [0u8; 256];
-    let mut starts = [0u16; 256];
-    let order = part_order::part_order(ucs2, counts, octets, &mut places, &mut starts);
-    let judged = order.judged;
-    match judged {
-        Ok(()) => joined(
-            reading,
-            order.reference,
-            counts.len(),
-            store_text(ucs2, &places, &starts, counts, octets, out),
-        ),
-        Err(refusal) => Err(refusal),
-    }
+    let reading = coding::read_octet(Service::ShortMessage, coding)?;
+    join_held(reading, counts, octets, out)
 }
 
-// The answer of storing the text, with what the parts say of it.
-fn joined(reading: Reading, reference: u8, parts: usize, answer: Result<usize, Refusal>) -> Result<PartsJoined, Refusal>
-    ensures { result ≡ joined_as reading reference parts answer }
+// The same behind the coding octet.
+fn join_held(
+    reading: Reading,
+    counts: &[u8],
+    octets: &[u8],
+    out: &mut [u16],
+) -> Result<PartsJoined, Refusal>
+    ensures answer { result ≡ held_joins reading counts.now octets.now (length out.old) }
+    ensures buffer { out.new ≡ held_join_leaves reading counts.now octets.now out.old }
 {
-    match answer {
-        Ok(units) => Ok(PartsJoined {
-            units: units,
-            reading: reading,
-            reference: reference,
-            parts: parts,
-        }),
-        Err(refusal) => Err(refusal),
-    }
+    let held = reading.holds(Service::ShortMessage)?;
+    let parts = Parts {
+        ucs2: held.is_ucs2(),
+        counts,
+        octets,
+    };
+    join_text(reading, &parts, out)
+}
+
+// Joins the text of parts, as 7-bit text or as UCS2: 4, 12, 4, 10, 7.
+fn join_text(reading: Reading, parts: &Parts, out: &mut [u16]) -> Result<PartsJoined, Refusal>
+    ensures answer { result ≡ text_joins reading parts.now.ucs2 parts.now.counts.now parts.now.octets.now (length out.old) }
+    ensures buffer { out.new ≡ text_join_leaves parts.now.ucs2 parts.now.counts.now parts.now.octets.now out.old }
+{
+    let mut tables = Tables::new();
+    let reference = parts.order(&mut tables)?;
+    let units = store_text(
+        parts.ucs2,
+        &tables.places,
+        &tables.starts,
+        parts.counts,
+        parts.octets,
+        out,
+    )?;
+    Ok(PartsJoined {
+        units,
+        reading,
+        reference,
+        parts: parts.counts.len(),
+    })
 }
 
 // Stores the text of parts that are in order: 7.
@@ -299,7 +292,7 @@ fn run_at<'a>(
     let start = part.start;
     let count = part.count;
     let end = start + groups::octets_for(count);
-    packing::unpack_all(Service::ShortMessage, &octets[start..end], count, septets);
+    let _ = packing::unpack_all(Service::ShortMessage, &octets[start..end], count, septets);
     let before = part.over - 1;
     septets[before] = 0x1b;
     let begin = without(part.over, half);

@@ -1,252 +1,180 @@
 // The parts of a long short message put in order: whether they are those of one message, which number each has, and where it begins.
 #![tactic(auto)]
 
-ghost use Rattle.std.specs.Prelude.{◌≡◌, true, false, not, ◌&&◌, ◌≤◌, eqb, replicate};
-ghost use Rattle.headed.specs.Header.{header_size, right_header, header_numbers};
+ghost use Rattle.std.specs.Prelude.{◌≡◌, true, false, not, ◌&&◌, ◌≤◌, ◌<◌, eqb, length, replicate, IfOk};
+ghost use Rattle.headed.specs.Header.{right_header, header_numbers};
 ghost use Rattle.filling.specs.Numbered.{lacks};
-ghost use Rattle.parted.specs.Read.{wrong_head, odd_behind};
 ghost use Rattle.parted.specs.Joined.{octets_asked, most_count, wrong_counts, wrong_heads, odd_parts};
 ghost use Rattle.parted.specs.Ordered.{places_of, starts_of, part_order_of, places_left, starts_left};
-ghost use Rattle.parted.specs.InnerJoined.{heads_judged, given_numbers, refused_order};
+ghost use Rattle.parted.specs.InnerJoined.{head_judged, heads_judged};
 
-use headed::{HeaderRead, Numbers};
-use parted::PartOrder;
+use headed::Numbers;
 use words::Refusal;
 
-// Whether no count is more than a short message holds, and they ask for as many octets as there are.
-fn counts_fit(ucs2: bool, counts: &[u8], octets: &[u8]) -> bool
-    ensures { result ≡ not (wrong_counts ucs2 counts.now octets.now) }
-{
-    let most = most_count(ucs2);
-    let mut left = octets.len();
-    let mut i: usize = 0;
-    while i < counts.len() {
-        let count = counts[i];
-        if most < count {
-            return false;
-        }
-        let asked = octets_asked(ucs2, count);
-        if left < asked {
-            return false;
-        }
-        left -= asked;
-        i += 1;
-    }
-    left == 0
-}
-
-// The most that a count may be.
-fn most_count(ucs2: bool) -> u8
-    ensures { result ≡ most_count ucs2 }
-{
-    if ucs2 {
-        return 140;
-    }
-    160
-}
-
-// How many octets a count asks.
-fn octets_asked(ucs2: bool, count: u8) -> usize
-    ensures { (result ≡ octets_asked ucs2 count) × (result ≤ 255) }
-{
-    let n = count as usize;
-    if ucs2 {
-        return n;
-    }
-    groups::octets_for(n)
-}
-
-// Judges the parts that octets are, end to end, by their counts: in two passes, one over the headers and one over their numbers. It refuses nothing: of
-// parts that are refused it says why, by the first rule over all parts that applies.
-// Leaves in the table of places, by the number of a part, one more than its place among the parts, and in that of starts, by its place, where it begins
-// among the octets. What has no part has 0, and all has where the parts are refused.
-pub fn part_order<'a>(
-    ucs2: bool,
-    counts: &[u8],
-    octets: &[u8],
-    places: &'a mut [u8; 256],
-    starts: &'a mut [u16; 256],
-) -> PartOrder
-    ensures answer { result ≡ part_order_of ucs2 counts.now octets.now }
-    ensures numbers { places.new ≡ places_left ucs2 counts.now octets.now }
-    ensures beginnings { starts.new ≡ starts_left ucs2 counts.now octets.now }
-{
-    *places = [0u8; 256];
-    *starts = [0u16; 256];
-    if !counts_fit(ucs2, counts, octets) {
-        return refused(Refusal::WrongLength);
-    }
-    match judge_heads(ucs2, counts, octets) {
-        Ok(()) => place_or_clear(ucs2, counts, octets, places, starts),
-        Err(refusal) => refused(refusal),
-    }
-}
-
-// The answer of parts that are refused.
-fn refused(refusal: Refusal) -> PartOrder
-    ensures { result ≡ refused_order refusal }
-{
-    PartOrder {
-        judged: Err(refusal),
-        reference: 0,
-    }
-}
-
-// What a pass over headers knows: whether the last one is right, and whether what stands behind each so far is even.
+// Parts as they come: whether their text is UCS2, the count of each, and their octets end to end.
 #[derive(Clone, Copy)]
-struct Head {
-    right: bool,
-    even: bool,
+pub struct Parts<'a> {
+    pub ucs2: bool,
+    pub counts: &'a [u8],
+    pub octets: &'a [u8],
 }
 
-// Judges the headers, and what stands behind them. A header that is wrong decides at once; an odd part only when all headers are known to be right.
-fn judge_heads(ucs2: bool, counts: &[u8], octets: &[u8]) -> Result<(), Refusal>
-    requires { wrong_counts ucs2 counts.now octets.now ≡ false }
-    ensures { result ≡ heads_judged ucs2 counts.now octets.now }
-{
-    let mut even = true;
-    let mut at: usize = 0;
-    let mut i: usize = 0;
-    while i < counts.len() {
-        let count = counts[i];
-        let end = at + octets_asked(ucs2, count);
-        let head = judge_head(ucs2, count, even, &octets[at..end]);
-        if !head.right {
-            return Err(Refusal::WrongHeader);
+// Which part has which number, and where each begins. What has no part has 0.
+#[derive(Drop)]
+pub struct Tables {
+    // By the number of a part, one more than its place among the parts.
+    pub places: [u8; 256],
+    // By that place, where it begins among the octets.
+    pub starts: [u16; 256],
+}
+
+impl Tables {
+    // Tables of no parts.
+    pub fn new() -> Self
+        ensures numbers { result.places ≡ replicate 256 0 }
+        ensures beginnings { result.starts ≡ replicate 256 0 }
+    {
+        Tables {
+            places: [0; 256],
+            starts: [0; 256],
         }
-        even = head.even;
-        at = end;
-        i += 1;
     }
-    if !even {
-        return Err(Refusal::WrongLength);
-    }
-    Ok(())
 }
 
-// Judges one part behind others that are even or not.
-fn judge_head(ucs2: bool, count: u8, even: bool, part: &[u8]) -> Head
-    ensures { (result.right ≡ not (wrong_head ucs2 count part.now)) × (result.right ≡ true → result.even ≡ (even && not (odd_behind ucs2 (header_size part.now) part.now))) }
-{
-    match header::read_header(part) {
-        Ok(HeaderRead {
-            octets: size,
-            concatenation: _,
-        }) => {
-            if ucs2 {
-                return Head {
-                    right: true,
-                    even: even && (part.len() - size) % 2 != 1,
-                };
+impl<'a> Parts<'a> {
+    // Judges the parts by their counts: in two passes, one over the headers and one over their numbers. It answers the reference that they share, or by
+    // the first rule over all parts that applies why they are refused.
+    // Leaves in the tables which part has which number, and where it begins; where the parts are refused, all is 0.
+    pub fn order(&self, tables: &mut Tables) -> Result<u8, Refusal>
+        ensures answer { result ≡ part_order_of self.now.ucs2 self.now.counts.now self.now.octets.now }
+        ensures numbers { tables.new.places ≡ places_left self.now.ucs2 self.now.counts.now self.now.octets.now }
+        ensures beginnings { tables.new.starts ≡ starts_left self.now.ucs2 self.now.counts.now self.now.octets.now }
+        ensures few { IfOk result (λ _. length self.now.counts.now < 256) }
+    {
+        *tables = Tables::new();
+        if !self.counts_fit() {
+            return Err(Refusal::WrongLength);
+        }
+        self.judge_heads()?;
+        let order = self.place(tables);
+        if order.is_err() {
+            *tables = Tables::new();
+        }
+        order
+    }
+
+    // Whether no count is more than a short message holds, and they ask for as many octets as there are.
+    fn counts_fit(&self) -> bool
+        ensures { result ≡ not (wrong_counts self.now.ucs2 self.now.counts.now self.now.octets.now) }
+    {
+        let most = self.most_count();
+        let mut left = self.octets.len();
+        for &count in self.counts {
+            let asked = self.octets_asked(count);
+            if most < count || left < asked {
+                return false;
             }
-            Head {
-                right: header::septets_over(part[0]) <= count as usize,
-                even: even,
+            left -= asked;
+        }
+        left == 0
+    }
+
+    // The most that a count may be.
+    fn most_count(&self) -> u8
+        ensures { result ≡ most_count self.now.ucs2 }
+    {
+        if self.ucs2 { 140 } else { 160 }
+    }
+
+    // How many octets a count asks.
+    fn octets_asked(&self, count: u8) -> usize
+        ensures { (result ≡ octets_asked self.now.ucs2 count) × (result ≤ 255) }
+    {
+        if self.ucs2 {
+            count as usize
+        } else {
+            groups::octets_for(count as usize)
+        }
+    }
+
+    // Judges the headers, and what stands behind them. A header that is wrong decides at once; an odd part only when all headers are known to be right.
+    fn judge_heads(&self) -> Result<(), Refusal>
+        requires { wrong_counts self.now.ucs2 self.now.counts.now self.now.octets.now ≡ false }
+        ensures { result ≡ heads_judged self.now.ucs2 self.now.counts.now self.now.octets.now }
+    {
+        let mut all_even = true;
+        let mut at: usize = 0;
+        for &count in self.counts {
+            let end = at + self.octets_asked(count);
+            let even = judge_head(self.ucs2, count, &self.octets[at..end])?;
+            all_even &= even;
+            at = end;
+        }
+        if !all_even {
+            return Err(Refusal::WrongLength);
+        }
+        Ok(())
+    }
+
+    // Puts parts in order whose counts and headers are right, in tables that are clear. The table of places has after each part those of the numbers so
+    // far, and a number that has a place already is there twice. Parts as many as the total, of which none is there twice, are all that there are.
+    fn place(&self, tables: &mut Tables) -> Result<u8, Refusal>
+        requires octets_value { (wrong_counts self.now.ucs2 self.now.counts.now self.now.octets.now ≡ false) × (wrong_heads self.now.ucs2 self.now.counts.now self.now.octets.now ≡ false) × (odd_parts self.now.ucs2 self.now.counts.now self.now.octets.now ≡ false) }
+        requires places_value { (tables.old.places ≡ replicate 256 0) × (tables.old.starts ≡ replicate 256 0) }
+        ensures value { result ≡ part_order_of self.now.ucs2 self.now.counts.now self.now.octets.now }
+        ensures tables_after { IfOk result (λ _. (tables.new.places ≡ places_of self.now.ucs2 self.now.counts.now self.now.octets.now) × (tables.new.starts ≡ starts_of self.now.ucs2 self.now.counts.now)) }
+        ensures few { IfOk result (λ _. length self.now.counts.now < 256) }
+    {
+        let Some(&count) = self.counts.first() else {
+            return Err(Refusal::WrongPages);
+        };
+        let size = self.octets_asked(count);
+        let Some(first) = numbers_in(&self.octets[..size]) else {
+            return Err(Refusal::WrongPages);
+        };
+        if self.counts.len() != first.total as usize {
+            return Err(Refusal::WrongPages);
+        }
+        let mut at: usize = 0;
+        for (i, &count) in self.counts.iter().enumerate() {
+            let end = at + self.octets_asked(count);
+            let Some(numbers) = numbers_in(&self.octets[at..end]) else {
+                return Err(Refusal::WrongPages);
+            };
+            let k = numbers.number as usize;
+            if !belongs(first, numbers) || tables.places[k] != 0 {
+                return Err(Refusal::WrongPages);
             }
+            tables.places[k] = i as u8 + 1;
+            tables.starts[i] = at as u16;
+            at = end;
         }
-        Err(_) => Head {
-            right: false,
-            even: even,
-        },
+        Ok(first.reference)
     }
 }
 
-// Puts parts in order whose counts and headers are right, in tables that are clear, and clears these again where the parts are not those of one message.
-fn place_or_clear<'a>(
-    ucs2: bool,
-    counts: &[u8],
-    octets: &[u8],
-    places: &'a mut [u8; 256],
-    starts: &'a mut [u16; 256],
-) -> PartOrder
-    requires octets_value { (wrong_counts ucs2 counts.now octets.now ≡ false) × (wrong_heads ucs2 counts.now octets.now ≡ false) × (odd_parts ucs2 counts.now octets.now ≡ false) }
-    requires places_value { (places.old ≡ replicate 256 0) × (starts.old ≡ replicate 256 0) }
-    ensures value { result ≡ part_order_of ucs2 counts.now octets.now }
-    ensures places_after { (places.new ≡ places_left ucs2 counts.now octets.now) × (starts.new ≡ starts_left ucs2 counts.now octets.now) }
+// Judges one part: a header that is not right, or takes more septets than the count, is refused. It answers whether what stands behind it is even.
+fn judge_head(ucs2: bool, count: u8, part: &[u8]) -> Result<bool, Refusal>
+    ensures { result ≡ head_judged ucs2 count part.now }
 {
-    let order = place_parts(ucs2, counts, octets, places, starts);
-    let judged = order.judged;
-    match judged {
-        Ok(()) => order,
-        Err(_) => {
-            *places = [0u8; 256];
-            *starts = [0u16; 256];
-            order
-        }
+    let header = header::read_header(part)?;
+    if ucs2 {
+        return Ok((part.len() - header.octets) % 2 != 1);
     }
+    if (count as usize) < header::septets_over(part[0]) {
+        return Err(Refusal::WrongHeader);
+    }
+    Ok(true)
 }
 
-// The table of places has after each part those of the numbers so far, and a number that has a place already is there twice. Parts as many as the total,
-// of which none is there twice, are all that there are.
-fn place_parts<'a>(
-    ucs2: bool,
-    counts: &[u8],
-    octets: &[u8],
-    places: &'a mut [u8; 256],
-    starts: &'a mut [u16; 256],
-) -> PartOrder
-    requires octets_value { (wrong_counts ucs2 counts.now octets.now ≡ false) × (wrong_heads ucs2 counts.now octets.now ≡ false) × (odd_parts ucs2 counts.now octets.now ≡ false) }
-    requires places_value { (places.old ≡ replicate 256 0) × (starts.old ≡ replicate 256 0) }
-    ensures value { result ≡ part_order_of ucs2 counts.now octets.now }
-    ensures places_after { result.judged ≡ (Ok tt) → (places.new ≡ places_of ucs2 counts.now octets.now) × (starts.new ≡ starts_of ucs2 counts.now) }
-{
-    let n = counts.len();
-    if n == 0 {
-        return refused(Refusal::WrongPages);
-    }
-    let size = octets_asked(ucs2, counts[0]);
-    let first = numbers_in(&octets[0..size]);
-    if n != first.total as usize {
-        return refused(Refusal::WrongPages);
-    }
-    let mut at: usize = 0;
-    let mut i: usize = 0;
-    while i < n {
-        let end = at + octets_asked(ucs2, counts[i]);
-        let numbers = numbers_in(&octets[at..end]);
-        if !belongs(first, numbers) {
-            return refused(Refusal::WrongPages);
-        }
-        let k = numbers.number as usize;
-        if places[k] != 0 {
-            return refused(Refusal::WrongPages);
-        }
-        starts[i] = at as u16;
-        at = end;
-        i += 1;
-        places[k] = i as u8;
-    }
-    PartOrder {
-        judged: Ok(()),
-        reference: first.reference,
-    }
-}
-
-// The numbers of a part, and zeros where its header has none: no part has the number 0.
-fn numbers_in(part: &[u8]) -> Numbers
+// The numbers of a part whose header is right, if that has them.
+fn numbers_in(part: &[u8]) -> Option<Numbers>
     requires { right_header part.now ≡ true }
-    ensures { result ≡ given_numbers (header_numbers part.now) }
+    ensures { result ≡ header_numbers part.now }
 {
     match header::read_header(part) {
-        Ok(HeaderRead {
-            octets: _,
-            concatenation,
-        }) => given(concatenation),
-        Err(_) => given(None),
-    }
-}
-
-// The numbers that a header gives, and zeros where it has none.
-fn given(concatenation: Option<Numbers>) -> Numbers
-    ensures { result ≡ given_numbers concatenation }
-{
-    match concatenation {
-        None => Numbers {
-            reference: 0,
-            total: 0,
-            number: 0,
-        },
-        Some(numbers) => numbers,
+        Ok(header) => header.concatenation,
+        Err(_) => None,
     }
 }
 

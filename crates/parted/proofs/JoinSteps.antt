@@ -22,7 +22,7 @@ use native.Mathlib.Nat.{add-zero, zero-add, add_comm, suc-add, mod-lt}
 use native.Mathlib.Numerals.{add-one}
 use native.Mathlib.Omega.{arith}
 use borrow.Author.Tests.{lt-ltb, le-ltb, le-leb, lt-leb, leb-true, leb-false, ltb-true, ltb-false, eq-eqb}
-use lib.Dec.{lit<, ltb, leb, eqb}
+use lib.Dec.{lit<, ltb, leb}
 use lib.ListN.{length, get_or, take, drop, set, length-set, length-append, length-drop}
 use lib.Seq.{take_all, take-take, drop_at, drop-cons, take-add, drop-drop, drop-set-lt, length-take-le, get_or-take, get_or-drop, get_or-set_same}
 use Rattle.words.specs.declared.Service.TheVariants.{ShortMessage}
@@ -32,7 +32,7 @@ use Rattle.words.specs.Judging.{Verdict, refused, accepted, when, verdict, settl
 use Rattle.words.proofs.Judging.{verdict-refused-first, verdict-accepted-first, accepted-rule}
 use Rattle.lists.specs.Lists.{first_wide, laid}
 use Rattle.lists.specs.Bits.{bit_of}
-use Rattle.lists.proofs.Below.{Below, below-drop, below-take}
+use Rattle.lists.proofs.Below.{Below, below-take}
 use Rattle.lists.proofs.Places.{place_none}
 use Rattle.lists.proofs.Tests.{and_left, or_right}
 use Rattle.filling.proofs.Table.{table-there}
@@ -41,7 +41,8 @@ use Rattle.letters.specs.Reading.{text_of, read_as, text_answers, text_leaves, t
 use Rattle.letters.proofs.Septets.{read-most}
 use Rattle.coding.specs.declared.Reading.{Reading}
 use Rattle.coding.specs.OctetRead.{octet_reads, read_under}
-use Rattle.coding.specs.Holding.{is_ucs2, holds_text}
+use Rattle.coding.specs.Holding.{is_ucs2, holds_text, holds_units}
+use Rattle.coding.specs.declared.Held.{Held}
 use Rattle.coding.proofs.Prefixed.{read-given}
 use Rattle.stream.specs.Stream.{stream_bit, unpacked, octets_for}
 use Rattle.stream.specs.ArrayCalls.{all_leaves}
@@ -51,24 +52,22 @@ use Rattle.stream.specs.Storing.{given_answers, given_leaves}
 use Rattle.stream.proofs.Stream.{unpacked-length}
 use Rattle.stream.proofs.Calls.{array-length, array-all}
 use Rattle.stream.proofs.UnitOctets.{octet-units-length}
-use Rattle.demands.proofs.Steps.{leaves-agree, held_as, holds-text}
+use Rattle.demands.proofs.Steps.{leaves-agree, held_as, held-units, holds-text}
 use Rattle.demands.proofs.Septets.{cut_below}
-use Rattle.headed.specs.Header.{Element, Elements, broken, whole, elements_up_to, elements_of, numbers_of, last_numbers, concatenation, header_size, header_body, numbers_in, header_numbers, right_header, septets_over}
-use Rattle.headed.proofs.Steps.{chosen, header-fits}
-use Rattle.parted.specs.declared.PartOrder.{PartOrder}
+use Rattle.headed.specs.Header.{header_size, right_header, septets_over}
+use Rattle.headed.proofs.Steps.{header-fits}
 use Rattle.parted.specs.Behind.{unpacked_behind}
 use Rattle.parted.specs.Read.{wrong_head, content_behind}
-use Rattle.parted.specs.Joined.{octets_asked, start_at, part_in, wrong_counts, wrong_heads, odd_parts, numbers_at, total_in, reference_in, total_at, number_at, wrong_parts, place_of, content_at, joined_from, joined_content, joined_text, parts_rules, join_rules, join_answers, join_leaves}
+use Rattle.parted.specs.Joined.{octets_asked, start_at, part_in, wrong_counts, wrong_heads, odd_parts, numbers_at, reference_in, total_at, number_at, wrong_parts, place_of, content_at, joined_from, joined_content, joined_text, parts_rules, join_rules, join_answers, join_leaves}
 use Rattle.parted.specs.Ordered.{order_rules, part_order_of, places_left, starts_left}
 use Rattle.parted.specs.InnerJoined.{held_joins, held_join_leaves, text_joins, text_join_leaves, joined_as, Sorted, over_in, ends_open, settled, run_behind, run_read, run_open, run_in, Ready, read_up_to, open_up_to}
 use Rattle.parted.proofs.ReadSteps.{held_first, held-stops}
 use Rattle.parted.proofs.Behind.{unpacked-behind, unpacked-behind-length}
 use Rattle.parted.proofs.Lent.{tail-laid}
 use Rattle.parted.proofs.Orders.{right-read-once}
-use Rattle.parted.proofs.OrderSteps.{count_most, part-within, part-whole, start-most, head-there, head_at, start-entry, order-refused, order-accepted, left-right}
+use Rattle.parted.proofs.OrderSteps.{count_most, part-within, part-whole, start-most, head-there, head_at, start-entry, order-refused, order-accepted, order-reference, left-right}
 use Rattle.parted.proofs.OpenRuns.{open-some, text-append, settled-closed, whole-next, read_next, open_next}
-use Rattle.std.specs.Prelude.{Option, Ok, Err, Some, None}
-use Rattle.headed.specs.declared.Numbers.{Numbers}
+use Rattle.std.specs.Prelude.{Ok, Err}
 use Rattle.parted.specs.Successes.{ok_parts_joined}
 
 -- ---- by what the coding octet is read as
@@ -81,10 +80,11 @@ module _ (cs o out : List ℕ) where
       let same : read_under ShortMessage coding ≡ r = read-given ShortMessage coding r e in
       (ap (λ (x : Reading). held_joins x cs o (length out)) (sym same), ap (λ (x : Reading). held_join_leaves x cs o out) (sym same))
 
-  pub held-joins : (r : Reading) (ucs2 : Bool) → held_as ucs2 ≡ holds_text ShortMessage r
+  pub held-joins : (r : Reading) (h : Held) (ucs2 : Bool) → ucs2 ≡ holds_units h → Ok h ≡ holds_text ShortMessage r
       → (text_joins r ucs2 cs o (length out) ≡ held_joins r cs o (length out)) × (text_join_leaves ucs2 cs o out ≡ held_join_leaves r cs o out)
   unfolding held_joins held_join_leaves text_joins text_join_leaves join_rules
-  held-joins r ucs2 e =
+  held-joins r h ucs2 u d =
+      let e : held_as ucs2 ≡ holds_text ShortMessage r = ap held_as u ∙ held-units h ∙ d in
       let v = held_first r ucs2 (λ x. parts_rules x cs o (length out)) e in
       let b = holds-text ShortMessage r ucs2 e in (
         sym (ap₂ (λ (w : Verdict) (x : Bool). settle w Err (ok_parts_joined (length (joined_text x cs o)) r (reference_in (numbers_at x cs o 0)) (length cs))) v b),
@@ -99,85 +99,34 @@ module _ (cs o out : List ℕ) where
       let x = joined_text (is_ucs2 r.alphabet) cs o in
       (sym (ap (λ (w : Verdict). settle w Err (ok_parts_joined (length x) r (reference_in (numbers_at (is_ucs2 r.alphabet) cs o 0)) (length cs))) v), leaves-agree {x = x} out v refl)
 
--- ---- a total is an octet
-
--- what was found, and what elements behind it say
-abbrev last_in : Option Numbers → Elements → Option Numbers
-last_in found broken = None
-last_in found (whole es) = last_numbers found es
-
-small-elements : (m : ℕ) (o : List ℕ) → Below 256 o → (found : Option Numbers) → total_in found < 256 → total_in (last_in found (elements_up_to m o)) < 256
-unfolding elements_up_to last_numbers
-small-elements zero [] b found h = h
-small-elements zero (i ∷ o) b found h = omega arith
-small-elements (suc m) [] b found h = h
-small-elements (suc m) (i ∷ []) b found h = omega arith
-small-elements (suc m) (i ∷ n ∷ o) b found h =
-    go (ltb (length o) n) (elements_up_to m (drop n o)) (small-elements m (drop n o) (below-drop 256 o behind n))
-  where
-    behind : Below 256 o
-    behind k = b (suc (suc k))
-
-    here : Element
-    here = record { identifier = i; octets = take n o }
-
-    chosen-small : (t : Bool) → total_in (cond t (Some (numbers_of here)) found) < 256
-    chosen-small true = below-take 256 o behind n 1
-    chosen-small false = h
-
-    go : (t : Bool) (x : Elements) → ((f : Option Numbers) → total_in f < 256 → total_in (last_in f x) < 256) → total_in (last_in found (chosen t here x)) < 256
-    go true x rest = omega arith
-    go false broken rest = omega arith
-    go false (whole es) rest = rest (cond (eqb i concatenation) (Some (numbers_of here)) found) (chosen-small (eqb i concatenation))
-
-total-small : (o : List ℕ) → Below 256 o → total_in (header_numbers o) < 256
-unfolding header_numbers header_body elements_of
-total-small o b =
-    subst (λ (c : Option Numbers). total_in c < 256) (same (elements_of (header_body o)))
-    (small-elements (length (header_body o)) (header_body o) (below-take 256 (drop 1 o) (below-drop 256 o b 1) (get_or o 0 0)) None (omega arith))
-  where
-    same : (x : Elements) → last_in None x ≡ numbers_in x
-    same broken = refl
-    same (whole es) = refl
-
-total-at : (ucs2 : Bool) (cs o : List ℕ) → Below 256 o → (i : ℕ) → total_at ucs2 cs o i < 256
-unfolding numbers_at part_in
-total-at ucs2 cs o b i =
-    total-small (part_in ucs2 cs o i) (below-take 256 (drop (start_at ucs2 cs i) o) (below-drop 256 o b (start_at ucs2 cs i)) (octets_asked ucs2 (get_or cs i 0)))
-
 -- ---- by the order of the parts
 
-module _ (ucs2 : Bool) (cs o : List ℕ) (p : PartOrder) (e : p ≡ part_order_of ucs2 cs o) where
+module _ (ucs2 : Bool) (cs o : List ℕ) where
   -- what the order says of the rules
-  pub text-refused : (r : Reading) (out : List ℕ) (q : Refusal) → p.judged ≡ Err q
+  pub text-refused : (r : Reading) (out : List ℕ) (q : Refusal) → Err q ≡ part_order_of ucs2 cs o
       → (Err q ≡ text_joins r ucs2 cs o (length out)) × (out ≡ text_join_leaves ucs2 cs o out)
   unfolding text_joins text_join_leaves order_rules parts_rules
   text-refused r out q d =
       let v : verdict (parts_rules ucs2 cs o (length out)) ≡ refused q =
-      verdict-refused-first (order_rules ucs2 cs o) (when (ltb (length out) (length (joined_text ucs2 cs o))) NoRoom ∷ []) q (order-refused ucs2 cs o p e q d) in
+      verdict-refused-first (order_rules ucs2 cs o) (when (ltb (length out) (length (joined_text ucs2 cs o))) NoRoom ∷ []) q (order-refused ucs2 cs o q d) in
       (sym (ap (λ (w : Verdict). settle w Err (ok_parts_joined (length (joined_text ucs2 cs o)) r (reference_in (numbers_at ucs2 cs o 0)) (length cs))) v), leaves-agree {x = joined_text ucs2 cs o} out v refl)
 
-  module _ (d : p.judged ≡ (Ok tt)) where
-    order-reference : p.reference ≡ reference_in (numbers_at ucs2 cs o 0)
-    unfolding part_order_of
-    order-reference = ap (λ (x : PartOrder). x.reference) e ∙ ap (λ (v : Verdict). settle v (λ q. 0) (reference_in (numbers_at ucs2 cs o 0))) (order-accepted ucs2 cs o p e d)
-
-    pub text-sorted : Below 256 o → (places starts : List ℕ) → places ≡ places_left ucs2 cs o → starts ≡ starts_left ucs2 cs o → Sorted ucs2 cs o places starts
+  module _ (reference : ℕ) (d : Ok reference ≡ part_order_of ucs2 cs o) where
+    pub text-sorted : length cs < 256 → (places starts : List ℕ) → places ≡ places_left ucs2 cs o → starts ≡ starts_left ucs2 cs o → Sorted ucs2 cs o places starts
     unfolding order_rules
-    text-sorted b places starts x y =
-        let one = accepted-rule (wrong_counts ucs2 cs o) WrongLength _ (order-accepted ucs2 cs o p e d) in
+    text-sorted few places starts x y =
+        let one = accepted-rule (wrong_counts ucs2 cs o) WrongLength _ (order-accepted ucs2 cs o reference d) in
         let two = accepted-rule (wrong_heads ucs2 cs o) WrongHeader _ one.1 in
         let three = accepted-rule (odd_parts ucs2 cs o) WrongLength _ two.1 in
         let four = accepted-rule (wrong_parts ucs2 cs o) WrongPages [] three.1 in
         let right = (right-read-once ucs2 cs o four.0).1 in
-        let small : length cs < 256 = omega (arith, right.count, total-at ucs2 cs o b 0) in
-        let left = left-right ucs2 cs o p e d in
+        let left = left-right ucs2 cs o reference d in
         record {
           fits = one.0;
           heads = two.0;
           even = three.0;
           right = four.0;
-          few = small;
+          few = few;
           placed = λ k some most.
               ap (λ (l : List ℕ). get_or l k 0) (x ∙ sym left.0)
               ∙ table-there (number_at ucs2 cs o) (length cs) 256 k (omega arith) (right.there k some (omega (arith, right.count))).0;
@@ -186,19 +135,19 @@ module _ (ucs2 : Bool) (cs o : List ℕ) (p : PartOrder) (e : p ≡ part_order_o
         }
 
     pub text-joins : (r : Reading) (out : List ℕ)
-        → (joined_as r p.reference (length cs) (given_answers (joined_text ucs2 cs o) (length out)) ≡ text_joins r ucs2 cs o (length out)) × (given_leaves (joined_text ucs2 cs o) out ≡ text_join_leaves ucs2 cs o out)
+        → (joined_as r reference (length cs) (given_answers (joined_text ucs2 cs o) (length out)) ≡ text_joins r ucs2 cs o (length out)) × (given_leaves (joined_text ucs2 cs o) out ≡ text_join_leaves ucs2 cs o out)
     unfolding text_joins text_join_leaves given_answers given_leaves order_rules parts_rules
     text-joins r out =
         let v : verdict (parts_rules ucs2 cs o (length out)) ≡ verdict (when (ltb (length out) (length (joined_text ucs2 cs o))) NoRoom ∷ []) =
-        verdict-accepted-first (order_rules ucs2 cs o) (when (ltb (length out) (length (joined_text ucs2 cs o))) NoRoom ∷ []) (order-accepted ucs2 cs o p e d) in (
+        verdict-accepted-first (order_rules ucs2 cs o) (when (ltb (length out) (length (joined_text ucs2 cs o))) NoRoom ∷ []) (order-accepted ucs2 cs o reference d) in (
           go (verdict (when (ltb (length out) (length (joined_text ucs2 cs o))) NoRoom ∷ []))
               ∙ sym
-              (ap₂ (λ (w : Verdict) (n : ℕ). settle w Err (ok_parts_joined (length (joined_text ucs2 cs o)) r n (length cs))) v (sym order-reference)),
+              (ap₂ (λ (w : Verdict) (n : ℕ). settle w Err (ok_parts_joined (length (joined_text ucs2 cs o)) r n (length cs))) v (sym (order-reference ucs2 cs o reference d))),
           leaves-agree {x = joined_text ucs2 cs o} out v refl,
         )
       where
-        go : (v : Verdict) → joined_as r p.reference (length cs) (settle v Err (Ok (length (joined_text ucs2 cs o))))
-            ≡ settle v Err (ok_parts_joined (length (joined_text ucs2 cs o)) r p.reference (length cs))
+        go : (v : Verdict) → joined_as r reference (length cs) (settle v Err (Ok (length (joined_text ucs2 cs o))))
+            ≡ settle v Err (ok_parts_joined (length (joined_text ucs2 cs o)) r reference (length cs))
         go (refused q) = refl
         go accepted = refl
 

@@ -1,20 +1,20 @@
 -- Parts gone through one by one, by their counts: where each begins, what its header is judged as, and which number it has.
 -- Assumes nothing.
 --   start-next, start-end   where the next part begins, and where the last ends
---   HeadJudged           what a part is judged as, behind others that are even or not
---   head-refused, head-even, head-odd, head-septets   the same by its header and its alphabet
+--   head-refused, head-units, head-long, head-septets   what a part is judged as, by its header and its alphabet
+--   head-wrong, head-even   what that judgement tells of it
 --   counts-high, counts_past, counts_end   what a pass over the counts judges them as
 --   part-within, part-is, part-first, part-whole, start-most   of counts that fit: a part is within the octets, it is the slice from its start on, it is as long as its
 --                        count asks, and no start is past 140 octets for each part before it
 --   HeadsPassed i at even   what a pass over the headers knows before part i
 --   heads-none, heads-more, heads-wrong, heads-odd, heads-right   the same before the first part, after one more, and what it decides
---   belongs-given        which part belongs to a message, by its plain numbers
+--   belongs-none, belongs-given   which part belongs to a message, by its plain numbers
 --   PartsPlaced, Starting   the tables of places and of starts after the first i parts
 --   starting-none, starting-more, starting-all   the table of starts before the first part, after one more, and after the last
 --   order-..             the order, by what is met on the way and by the tables at the end; the verdict, by the order
 --   left-refused, left-right   what is left in the tables
 use mathlib.Core.Path.{◌≡◌, refl, sym, ap, ap₂, ◌∙◌, subst}
-use mathlib.Core.Bool.{Bool, true, false, not, cond, ◌&&◌, or-true, and-true, and-false, true≢false, false≢true}
+use mathlib.Core.Bool.{Bool, true, false, not, cond, ◌&&◌, or-true, and-false, true≢false}
 use mathlib.Core.List.{List, [], ◌∷◌, ◌++◌, map}
 use Prim.Native.Nat.{ℕ, zero, suc, ◌+◌, ◌-◌, ◌*◌, ◌%◌, ◌≤◌, ◌<◌}
 use mathlib.Core.Logic.{◌⊎◌, inl, inr, ⊎_elim}
@@ -22,13 +22,15 @@ use native.Mathlib.Nat.{add-zero, zero-add}
 use native.Mathlib.Numerals.{add-one}
 use native.Mathlib.Omega.{arith}
 use borrow.Author.Count.{below_more}
-use borrow.Author.Tests.{lt-ltb, le-ltb, lt-leb, le-leb, ltb-true, ltb-false, eq-eqb, ne_eqb, eqb-true, eqb-false, not-true, not-false}
-use lib.Dec.{ltb, leb, eqb}
+use borrow.Author.Tests.{lt-ltb, le-ltb, ltb-true, ltb-false, eq-eqb, ne_eqb, eqb-true, eqb-false, not-true, not-false}
+use lib.Dec.{ltb, eqb}
 use lib.ListN.{length, get_or, take, drop, set, replicate, length-drop, length-map, length-set, length-replicate, take-append-drop}
 use lib.Seq.{take-suc, take_all, length-take-le, get_or-set_same, get_or-set_other, ext_get_or}
 use Rattle.words.specs.declared.Refusal.{Refusal}
 use Rattle.words.specs.declared.Refusal.TheVariants.{WrongLength, WrongHeader, WrongPages}
 use Rattle.words.specs.Judging.{Verdict, refused, accepted, when, verdict, settle}
+use Rattle.words.proofs.Judging.{settle-told, settle-given}
+use Rattle.words.proofs.Rules.{verdict_of, ok-inside, err-inside, ok-or-err}
 use Rattle.lists.specs.Lists.{first_place, numbers_from}
 use Rattle.lists.proofs.Places.{place-before, place_none, numbers-length, numbers-at}
 use Rattle.lists.proofs.Tests.{and_left, and_right, or_left, or_right}
@@ -38,11 +40,10 @@ use Rattle.filling.proofs.Runs.{some-none, none-some, some-here, one-to-one-le}
 use Rattle.filling.proofs.Placing.{none-lacks, place-first, place-number, right-one-to-one, one-to-one-right}
 use Rattle.filling.proofs.Table.{Placing, Fine, belonging, wrong-foreign, placing-repeated}
 use Rattle.headed.specs.Header.{header_size, right_header, septets_over}
-use Rattle.parted.specs.declared.PartOrder.{PartOrder}
 use Rattle.parted.specs.Read.{wrong_head, odd_behind}
 use Rattle.parted.specs.Joined.{octets_asked, all_asked, most_count, start_at, part_in, wrong_counts, wrong_heads, odd_parts, numbers_at, number_in, total_in, reference_in, of_one_message, number_at, total_at, alike, wrong_parts}
 use Rattle.parted.specs.Ordered.{order_rules, places_of, start_entry, starts_of, part_order_of, places_left, starts_left}
-use Rattle.parted.specs.InnerJoined.{heads_judged, refused_order}
+use Rattle.parted.specs.InnerJoined.{head_judged, heads_judged}
 use Rattle.parted.proofs.Orders.{one-total}
 use Rattle.std.specs.Prelude.{Result, Option, Ok, Err, Some, None}
 use Rattle.headed.specs.declared.Numbers.{Numbers}
@@ -92,31 +93,42 @@ module _ (ucs2 : Bool) (cs : List ℕ) where
 
 -- ---- one header
 
-module _ (ucs2 : Bool) (count : ℕ) (even : Bool) (o : List ℕ) where
-  -- what is judged of a part: whether its header is right, and then whether what stands behind it is even, and was behind those before it
-  abbrev pub HeadJudged : Bool → Bool → Type 0
-  HeadJudged right next = (right ≡ not (wrong_head ucs2 count o)) × (right ≡ true → next ≡ (even && not (odd_behind ucs2 (header_size o) o)))
-
-  pub head-refused : right_header o ≡ false → HeadJudged false even
-  unfolding wrong_head
-  head-refused wrong = (simp wrong, λ e. absurd (false≢true e))
+module _ (ucs2 : Bool) (count : ℕ) (o : List ℕ) where
+  pub head-refused : right_header o ≡ false → head_judged ucs2 count o ≡ Err WrongHeader
+  unfolding head_judged wrong_head verdict
+  head-refused wrong = simp wrong
 
   module _ (right : right_header o ≡ true) where
-    pub head-even : ucs2 ≡ true → even ≡ true → (size : ℕ) → size ≡ header_size o → HeadJudged true (not (eqb ((length o - size) % 2) 1))
-    unfolding wrong_head odd_behind
-    head-even units before size e = (simp (right, units), λ t. simp (units, before, e))
+    pub head-units : ucs2 ≡ true → (size : ℕ) → size ≡ header_size o → head_judged ucs2 count o ≡ Ok (not (eqb ((length o - size) % 2) 1))
+    unfolding head_judged wrong_head odd_behind verdict
+    head-units units size e = simp (right, units, e)
 
-    pub head-odd : ucs2 ≡ true → even ≡ false → HeadJudged true even
-    unfolding wrong_head
-    head-odd units before = (simp (right, units), λ t. simp before)
+    pub head-long : ucs2 ≡ false → (over : ℕ) → over ≡ septets_over (header_size o) → count < over → head_judged ucs2 count o ≡ Err WrongHeader
+    unfolding head_judged wrong_head verdict
+    head-long septets over e long = simp (right, septets, ← e, lt-ltb count over long)
 
-    pub head-septets : ucs2 ≡ false → (over : ℕ) → over ≡ septets_over (header_size o) → HeadJudged (leb over count) even
-    unfolding wrong_head odd_behind
-    head-septets septets over e = (simp (right, septets, ← e) (go (ltb count over) refl), λ t. simp (septets, and-true))
-      where
-        go : (b : Bool) → ltb count over ≡ b → leb over count ≡ not (ltb count over)
-        go true h = lt-leb over count (ltb-true count over h) ∙ sym (ap not h)
-        go false h = le-leb over count (ltb-false count over h) ∙ sym (ap not h)
+    pub head-septets : ucs2 ≡ false → (over : ℕ) → over ≡ septets_over (header_size o) → over ≤ count → head_judged ucs2 count o ≡ Ok true
+    unfolding head_judged wrong_head odd_behind verdict
+    head-septets septets over e short = simp (right, septets, ← e, le-ltb count over short)
+
+  -- what the judgement tells
+  pub head-wrong : (q : Refusal) → Err q ≡ head_judged ucs2 count o → (wrong_head ucs2 count o ≡ true) × (q ≡ WrongHeader)
+  unfolding head_judged verdict
+  head-wrong q e = go (wrong_head ucs2 count o) refl e
+    where
+      go : (a : Bool) → wrong_head ucs2 count o ≡ a → ◌≡◌ {A = Result Bool Refusal} (Err q) (settle (verdict (when a WrongHeader ∷ [])) Err (Ok (not (odd_behind ucs2 (header_size o) o))))
+          → (wrong_head ucs2 count o ≡ true) × (q ≡ WrongHeader)
+      go true x d = (x, err-inside d)
+      go false x d = absurd (ok-or-err (sym d))
+
+  pub head-even : (even : Bool) → Ok even ≡ head_judged ucs2 count o → (wrong_head ucs2 count o ≡ false) × (even ≡ not (odd_behind ucs2 (header_size o) o))
+  unfolding head_judged verdict
+  head-even even e = go (wrong_head ucs2 count o) refl e
+    where
+      go : (a : Bool) → wrong_head ucs2 count o ≡ a → ◌≡◌ {A = Result Bool Refusal} (Ok even) (settle (verdict (when a WrongHeader ∷ [])) Err (Ok (not (odd_behind ucs2 (header_size o) o))))
+          → (wrong_head ucs2 count o ≡ false) × (even ≡ not (odd_behind ucs2 (header_size o) o))
+      go true x d = absurd (ok-or-err d)
+      go false x d = (x, ok-inside d)
 
 -- ---- the counts
 
@@ -172,9 +184,9 @@ module _ (ucs2 : Bool) (cs o : List ℕ) where
       ap₂ (λ (m k : ℕ). take m (drop k o)) same e
 
   -- the first part begins where the octets do
-  pub part-first : (n : ℕ) → n ≡ octets_asked ucs2 (get_or cs 0 0) → take (n - 0) (drop 0 o) ≡ part_in ucs2 cs o 0
+  pub part-first : (n : ℕ) → n ≡ octets_asked ucs2 (get_or cs 0 0) → take n o ≡ part_in ucs2 cs o 0
   unfolding part_in all_asked
-  part-first n e = let same : n - 0 ≡ octets_asked ucs2 (get_or cs 0 0) = omega (arith, e) in ap (λ (m : ℕ). take m o) same
+  part-first n e = ap (λ (m : ℕ). take m o) e
 
   -- ---- all headers
 
@@ -254,16 +266,16 @@ module _ (ucs2 : Bool) (cs o : List ℕ) where
       go true x b y d = let z : ◌≡◌ {A = ℕ} 0 1 = cc in absurd (omega arith)
       go false x true y d = let z : ◌≡◌ {A = ℕ} 0 1 = cc in absurd (omega arith)
 
-  pub order-misfit : wrong_counts ucs2 cs o ≡ true → part_order_of ucs2 cs o ≡ refused_order WrongLength
+  pub order-misfit : wrong_counts ucs2 cs o ≡ true → part_order_of ucs2 cs o ≡ Err WrongLength
   unfolding part_order_of order_rules verdict
   order-misfit e = simp e
 
-  pub order-headless : (q : Refusal) → wrong_counts ucs2 cs o ≡ false → Err q ≡ heads_judged ucs2 cs o → part_order_of ucs2 cs o ≡ refused_order q
+  pub order-headless : (q : Refusal) → wrong_counts ucs2 cs o ≡ false → Err q ≡ heads_judged ucs2 cs o → part_order_of ucs2 cs o ≡ Err q
   unfolding part_order_of order_rules heads_judged verdict
   order-headless q fits e = go (wrong_heads ucs2 cs o) refl (odd_parts ucs2 cs o) refl e
     where
       go : (a : Bool) → wrong_heads ucs2 cs o ≡ a → (b : Bool) → odd_parts ucs2 cs o ≡ b → ◌≡◌ {A = Result (Unit {0}) Refusal} (Err q) (settle (verdict (when a WrongHeader ∷ when b WrongLength ∷ [])) Err (Ok tt))
-          → part_order_of ucs2 cs o ≡ refused_order q
+          → part_order_of ucs2 cs o ≡ Err q
       go true x b y d = let same : q ≡ WrongHeader = cc in simp (fits, x, same)
       go false x true y d = let same : q ≡ WrongLength = cc in simp (fits, x, y, same)
       go false x false y d = let z : ◌≡◌ {A = ℕ} 0 1 = cc in absurd (omega arith)
@@ -271,19 +283,12 @@ module _ (ucs2 : Bool) (cs o : List ℕ) where
 -- ---- which number each part has
 
 -- a header without the element gives the number 0, which no part has
-pub belongs-given : (a b : Option Numbers)
-    → ((eqb (reference_in a) (reference_in b) && eqb (total_in a) (total_in b)) && not (lacks (total_in b) (number_in b))) ≡ (of_one_message a b && not (lacks (total_in b) (number_in b)))
-belongs-given (Some m) (Some n) = refl
-belongs-given a None = and-false (eqb (reference_in a) 0 && eqb (total_in a) 0) ∙ sym (and-false (of_one_message a None))
-belongs-given None (Some n) = go (eqb 0 n.total) refl
-  where
-    none : (k : ℕ) → not (lacks 0 k) ≡ false
-    none zero = refl
-    none (suc k) = simp (ne_eqb (suc k) 0 (λ e. omega arith), lt-ltb 0 (suc k) (omega arith))
+pub belongs-none : (a b : Option Numbers) → b ≡ None → (of_one_message a b && not (lacks (total_in b) (number_in b))) ≡ false
+belongs-none a b e = ap (λ (x : Option Numbers). of_one_message a x && not (lacks (total_in x) (number_in x))) e ∙ and-false (of_one_message a None)
 
-    go : (t : Bool) → eqb 0 n.total ≡ t → ((eqb 0 n.reference && eqb 0 n.total) && not (lacks n.total n.number)) ≡ false
-    go true e = ap (λ (x : ℕ). (eqb 0 n.reference && eqb 0 x) && not (lacks x n.number)) (sym (eqb-true 0 n.total e)) ∙ ap (λ (x : Bool). (eqb 0 n.reference && true) && x) (none n.number) ∙ and-false (eqb 0 n.reference && true)
-    go false e = simp (e, and-false)
+pub belongs-given : (a b : Option Numbers) (m n : Numbers) → Some m ≡ a → Some n ≡ b
+    → ((eqb m.reference n.reference && eqb m.total n.total) && not (lacks n.total n.number)) ≡ (of_one_message a b && not (lacks (total_in b) (number_in b)))
+belongs-given a b m n e d = ap₂ (λ (x y : Option Numbers). of_one_message x y && not (lacks (total_in y) (number_in y))) e d
 
 -- numbers from 1 to n that n things have, no two the same, are all numbers from 1 to n: without one of them there would be too few
 module _ (number : ℕ → ℕ) (n : ℕ) (numbered : (i : ℕ) → i < n → (1 ≤ number i) × (number i ≤ n)) (apart : (i j : ℕ) → i < n → j < n → number i ≡ number j → i ≡ j) where
@@ -397,34 +402,34 @@ module _ (ucs2 : Bool) (cs o : List ℕ) where
       go j false e = p.unseen j (omega (arith, ltb-false j (length cs) e)) ∙ sym (ap (λ (b : Bool). cond b (start_at ucs2 cs j) 0) e)
 
   module _ (fits : wrong_counts ucs2 cs o ≡ false) (heads : wrong_heads ucs2 cs o ≡ false) (even : odd_parts ucs2 cs o ≡ false) where
-    order-wrong : wrong_parts ucs2 cs o ≡ true → part_order_of ucs2 cs o ≡ refused_order WrongPages
+    order-wrong : wrong_parts ucs2 cs o ≡ true → part_order_of ucs2 cs o ≡ Err WrongPages
     unfolding part_order_of order_rules verdict
     order-wrong e = simp (fits, heads, even, e)
 
-    pub order-none : length cs ≡ 0 → part_order_of ucs2 cs o ≡ refused_order WrongPages
+    pub order-none : length cs ≡ 0 → part_order_of ucs2 cs o ≡ Err WrongPages
     unfolding wrong_parts
     order-none e = order-wrong (simp (eq-eqb (length cs) 0 e))
 
-    wrong-among : wrong_among (number_at ucs2 cs o) (total_at ucs2 cs o) (alike ucs2 cs o) (length cs) ≡ true → part_order_of ucs2 cs o ≡ refused_order WrongPages
+    wrong-among : wrong_among (number_at ucs2 cs o) (total_at ucs2 cs o) (alike ucs2 cs o) (length cs) ≡ true → part_order_of ucs2 cs o ≡ Err WrongPages
     unfolding wrong_parts
     wrong-among e = order-wrong (simp (e, or-true))
 
-    pub order-many : (length cs ≡ total_at ucs2 cs o 0 → ⊥) → part_order_of ucs2 cs o ≡ refused_order WrongPages
+    pub order-many : (length cs ≡ total_at ucs2 cs o 0 → ⊥) → part_order_of ucs2 cs o ≡ Err WrongPages
     order-many other = wrong-among (go (wrong_among (number_at ucs2 cs o) (total_at ucs2 cs o) (alike ucs2 cs o) (length cs)) refl)
       where
         go : (b : Bool) → wrong_among (number_at ucs2 cs o) (total_at ucs2 cs o) (alike ucs2 cs o) (length cs) ≡ b → b ≡ true
         go true e = refl
         go false e = absurd (other (right-one-to-one (number_at ucs2 cs o) (total_at ucs2 cs o) (alike ucs2 cs o) (length cs) (one-total ucs2 cs o) e).count)
 
-    pub order-foreign : (i : ℕ) → i < length cs → belonging (number_at ucs2 cs o) (total_at ucs2 cs o) (alike ucs2 cs o) i ≡ false → part_order_of ucs2 cs o ≡ refused_order WrongPages
+    pub order-foreign : (i : ℕ) → i < length cs → belonging (number_at ucs2 cs o) (total_at ucs2 cs o) (alike ucs2 cs o) i ≡ false → part_order_of ucs2 cs o ≡ Err WrongPages
     order-foreign i h e = wrong-among (wrong-foreign (number_at ucs2 cs o) (total_at ucs2 cs o) (alike ucs2 cs o) (length cs) i h e)
 
     module _ {i : ℕ} {places : List ℕ} (p : PartsPlaced i places) where
-      pub order-repeated : i < length cs → (get_or places (number_at ucs2 cs o i) 0 ≡ 0 → ⊥) → part_order_of ucs2 cs o ≡ refused_order WrongPages
+      pub order-repeated : i < length cs → (get_or places (number_at ucs2 cs o i) 0 ≡ 0 → ⊥) → part_order_of ucs2 cs o ≡ Err WrongPages
       order-repeated h taken = wrong-among (placing-repeated p h taken)
 
       module _ (e : i ≡ length cs) (some : length cs ≡ 0 → ⊥) (many : length cs ≡ total_at ucs2 cs o 0) where
-        pub order-right : (reference : ℕ) → reference ≡ reference_in (numbers_at ucs2 cs o 0) → part_order_of ucs2 cs o ≡ record { judged = (Ok tt); reference = reference }
+        pub order-right : (reference : ℕ) → reference ≡ reference_in (numbers_at ucs2 cs o 0) → part_order_of ucs2 cs o ≡ Ok reference
         unfolding part_order_of order_rules wrong_parts verdict
         order-right reference same =
             let right : wrong_among (number_at ucs2 cs o) (total_at ucs2 cs o) (alike ucs2 cs o) (length cs) ≡ false =
@@ -433,36 +438,28 @@ module _ (ucs2 : Bool) (cs o : List ℕ) where
 
 -- ---- what is left in the tables
 
-module _ (ucs2 : Bool) (cs o : List ℕ) (p : PartOrder) (e : p ≡ part_order_of ucs2 cs o) where
-  pub order-refused : (q : Refusal) → p.judged ≡ Err q → verdict (order_rules ucs2 cs o) ≡ refused q
+module _ (ucs2 : Bool) (cs o : List ℕ) where
+  pub order-refused : (q : Refusal) → Err q ≡ part_order_of ucs2 cs o → verdict (order_rules ucs2 cs o) ≡ refused q
   unfolding part_order_of
-  order-refused q d = go (verdict (order_rules ucs2 cs o)) (sym d ∙ ap (λ (x : PartOrder). x.judged) e)
-    where
-      go : (v : Verdict) → ◌≡◌ {A = Result (Unit {0}) Refusal} (Err q) (settle v Err (Ok tt)) → v ≡ refused q
-      go (refused x) s = let same : q ≡ x = cc in ap refused (sym same)
-      go accepted s = let z : ◌≡◌ {A = ℕ} 0 1 = cc in absurd (omega arith)
+  order-refused q d = settle-told verdict_of Err (Ok (reference_in (numbers_at ucs2 cs o 0))) (λ r. refl) refl (verdict (order_rules ucs2 cs o)) (Err q) d
 
-  pub order-accepted : p.judged ≡ (Ok tt) → verdict (order_rules ucs2 cs o) ≡ accepted
-  unfolding part_order_of
-  order-accepted d = go (verdict (order_rules ucs2 cs o)) (sym d ∙ ap (λ (x : PartOrder). x.judged) e)
-    where
-      go : (v : Verdict) → ◌≡◌ {A = Result (Unit {0}) Refusal} (Ok tt) (settle v Err (Ok tt)) → v ≡ accepted
-      go (refused x) s = let z : ◌≡◌ {A = ℕ} 0 1 = cc in absurd (omega arith)
-      go accepted s = refl
+  module _ (reference : ℕ) (d : Ok reference ≡ part_order_of ucs2 cs o) where
+    pub order-accepted : verdict (order_rules ucs2 cs o) ≡ accepted
+    unfolding part_order_of
+    order-accepted = settle-told verdict_of Err (Ok (reference_in (numbers_at ucs2 cs o 0))) (λ r. refl) refl (verdict (order_rules ucs2 cs o)) (Ok reference) d
 
-  pub left-refused : (q : Refusal) → p.judged ≡ Err q → (replicate 256 0 ≡ places_left ucs2 cs o) × (replicate 256 0 ≡ starts_left ucs2 cs o)
+    pub order-reference : reference ≡ reference_in (numbers_at ucs2 cs o 0)
+    unfolding part_order_of
+    order-reference = ok-inside {E = Refusal} (d ∙ settle-given (verdict (order_rules ucs2 cs o)) Err (Ok (reference_in (numbers_at ucs2 cs o 0))) order-accepted)
+
+    pub left-right : (places_of ucs2 cs o ≡ places_left ucs2 cs o) × (starts_of ucs2 cs ≡ starts_left ucs2 cs o)
+    unfolding places_left starts_left
+    left-right =
+        let v = sym order-accepted in
+        (ap (λ (w : Verdict). settle w (λ x. replicate 256 0) (places_of ucs2 cs o)) v, ap (λ (w : Verdict). settle w (λ x. replicate 256 0) (starts_of ucs2 cs)) v)
+
+  pub left-refused : (q : Refusal) → Err q ≡ part_order_of ucs2 cs o → (replicate 256 0 ≡ places_left ucs2 cs o) × (replicate 256 0 ≡ starts_left ucs2 cs o)
   unfolding places_left starts_left
   left-refused q d =
       let v = sym (order-refused q d) in
       (ap (λ (w : Verdict). settle w (λ x. replicate 256 0) (places_of ucs2 cs o)) v, ap (λ (w : Verdict). settle w (λ x. replicate 256 0) (starts_of ucs2 cs)) v)
-
-  pub left-right : p.judged ≡ (Ok tt) → (places_of ucs2 cs o ≡ places_left ucs2 cs o) × (starts_of ucs2 cs ≡ starts_left ucs2 cs o)
-  unfolding places_left starts_left
-  left-right d =
-      let v = sym (order-accepted d) in
-      (ap (λ (w : Verdict). settle w (λ x. replicate 256 0) (places_of ucs2 cs o)) v, ap (λ (w : Verdict). settle w (λ x. replicate 256 0) (starts_of ucs2 cs)) v)
-
--- parts that are refused on the way, whatever is in the tables
-pub refused-here : (ucs2 : Bool) (cs o : List ℕ) (p : PartOrder) (q : Refusal) {X : Type 0} → p ≡ refused_order q → part_order_of ucs2 cs o ≡ refused_order q
-    → (p ≡ part_order_of ucs2 cs o) × (p.judged ≡ (Ok tt) → X)
-refused-here ucs2 cs o p q e d = (e ∙ sym d, λ r. let z : Err q ≡ (Ok tt) = sym (ap (λ (x : PartOrder). x.judged) e) ∙ r in let n : ◌≡◌ {A = ℕ} 0 1 = cc in absurd (omega arith))

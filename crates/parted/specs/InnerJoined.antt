@@ -2,8 +2,7 @@
 -- Own rule: none. Assumes nothing.
 -- Parts are UCS2 where ucs2 is true, else 7-bit; cs are their counts and o their octets, end to end:
 --   heads_judged ucs2 cs o             == what the headers of all parts, and then the evenness of what stands behind them, are judged as: 12, 4
---   given_numbers c                    == the numbers that a header gives, and zeros where it has none
---   refused_order q                    == the answer of parts that are refused
+--   head_judged ucs2 count p           == what the part p with a count is judged as by itself: 12, or whether what stands behind its header is even
 --   held_joins, held_join_leaves       == joining parts whose coding octet is read as r: 1, 2, 4, 12, 4, 10, 7
 --   text_joins, text_join_leaves       == the same where the reading is known to hold UCS2 or 7-bit text: 4, 12, 4, 10, 7
 --   joined_as r reference parts answer == the answer of storing a text, with what the parts say of it
@@ -18,7 +17,7 @@
 --   run_in septets begin end             == the run that stands between two places of an array
 --   Ready septets begin end              == it stands there, and its septets are septets
 --   read_up_to cs o k, open_up_to cs o k == what is read of the parts up to number k, and whether such an escape is left
-use Rattle.std.specs.Prelude.{ℕ, suc, ◌-◌, ◌≤◌, ◌<◌, ◌≡◌, Bool, true, false, cond, List, [], ◌∷◌, leb, eqb, length, get_or, take, drop, Result, Option, Ok, Err}
+use Rattle.std.specs.Prelude.{ℕ, suc, ◌-◌, ◌≤◌, ◌<◌, ◌≡◌, Bool, true, false, not, cond, List, [], ◌∷◌, leb, eqb, length, get_or, take, drop, Result, Ok, Err}
 use Rattle.words.specs.declared.Refusal.{Refusal}
 use Rattle.words.specs.declared.Refusal.TheVariants.{WrongLength, WrongHeader}
 use Rattle.words.specs.Judging.{when, verdict, settle}
@@ -26,22 +25,18 @@ use Rattle.lists.specs.Lists.{laid}
 use Rattle.coding.specs.declared.Reading.{Reading}
 use Rattle.coding.specs.Holding.{is_ucs2}
 use Rattle.letters.specs.Tables.{escape}
-use Rattle.headed.specs.declared.Numbers.{Numbers}
 use Rattle.headed.specs.Header.{header_size, septets_over}
-use Rattle.parted.specs.declared.PartOrder.{PartOrder}
 use Rattle.parted.specs.declared.PartsJoined.{PartsJoined}
-use Rattle.parted.specs.Joined.{start_at, wrong_counts, wrong_heads, odd_parts, numbers_at, number_in, total_in, reference_in, wrong_parts, place_of, content_at, joined_from, joined_text, parts_rules, join_rules}
+use Rattle.parted.specs.Read.{wrong_head, odd_behind}
+use Rattle.parted.specs.Joined.{start_at, wrong_counts, wrong_heads, odd_parts, numbers_at, reference_in, wrong_parts, place_of, content_at, joined_from, joined_text, parts_rules, join_rules}
 use Rattle.parted.specs.Successes.{ok_parts_joined}
 
 unfoldable pub heads_judged : Bool → List ℕ → List ℕ → Result (Unit {0}) Refusal
 heads_judged ucs2 cs o =
     settle (verdict (when (wrong_heads ucs2 cs o) WrongHeader ∷ when (odd_parts ucs2 cs o) WrongLength ∷ [])) Err (Ok tt)
 
-abbrev pub given_numbers : Option Numbers → Numbers
-given_numbers c = record { reference = reference_in c; total = total_in c; number = number_in c }
-
-abbrev pub refused_order : Refusal → PartOrder
-refused_order q = record { judged = Err q; reference = 0 }
+unfoldable pub head_judged : Bool → ℕ → List ℕ → Result Bool Refusal
+head_judged ucs2 count p = settle (verdict (when (wrong_head ucs2 count p) WrongHeader ∷ [])) Err (Ok (not (odd_behind ucs2 (header_size p) p)))
 
 unfoldable pub held_joins : Reading → List ℕ → List ℕ → ℕ → Result PartsJoined Refusal
 held_joins r cs o room =

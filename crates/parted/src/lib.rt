@@ -77,11 +77,3 @@ pub struct PartsJoined {
     // How many parts the message has.
     pub parts: usize,
 }
-
-// What putting parts in order answers.
-#[derive(Clone, Copy)]
-pub struct PartOrder {
-    pub judged: Result<(), Refusal>,
-    // The reference that they share, and 0 where they are refused.
-    pub reference: u8,
-}

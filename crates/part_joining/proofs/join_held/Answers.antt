@@ -1,21 +1,15 @@
 -- What the reading holds says how the text is joined. Assumes nothing.
-use mathlib.Core.Bool.{true, false}
-use mathlib.Core.Path.{sym, ◌∙◌}
+use mathlib.Core.Path.{◌∙◌}
+use borrow.Author.Rules.{rules}
 use Rattle.parted.proofs.JoinSteps.{held-joins, held_none}
-use Rattle.words.proofs.Clauses.{answered}
+use Rattle.words.proofs.Clauses.{answered, passed}
 use Rattle.part_joining.proofs.join_held.Goals as goal
 
-pub returns-in-Septets : goal.returns-in-Septets
-returns-in-Septets c = let a = c.args in
-    let s = held-joins a.counts.now a.octets.now a.out.now a.reading false (sym c.in-Septets.is ∙ c.holds.ensures.answer) in
-    record { answer = c.join_text.ensures.answer ∙ s.0; buffer = c.join_text.ensures.buffer ∙ s.1 }
+pub returns-in_err-held : goal.returns-in_err-held
+returns-in_err-held c = let a = c.args in
+    passed (search rules) (held_none a.counts.now a.octets.now a.out.now a.reading _ c.in_err-held.ensures.answer)
 
-pub returns-in-Units : goal.returns-in-Units
-returns-in-Units c = let a = c.args in
-    let s = held-joins a.counts.now a.octets.now a.out.now a.reading true (sym c.in-Units.is ∙ c.holds.ensures.answer) in
-    record { answer = c.join_text-in-Units.ensures.answer ∙ s.0; buffer = c.join_text-in-Units.ensures.buffer ∙ s.1 }
-
-pub returns-in-Err : goal.returns-in-Err
-returns-in-Err c = let a = c.args in
-    answered
-    (held_none a.counts.now a.octets.now a.out.now a.reading _ (sym c.in-Err.is ∙ c.holds.ensures.answer))
+pub returns : goal.returns
+returns c = let a = c.args in
+    let s = held-joins a.counts.now a.octets.now a.out.now a.reading _ _ c.is_ucs2.ensures.answer c.in_ok-held.ensures.answer in
+    answered (c.join_text.ensures.answer ∙ s.0, c.join_text.ensures.buffer ∙ s.1)

@@ -1,23 +1,27 @@
 -- The order of the parts settles every rule but the room. Assumes nothing.
 use mathlib.Core.Path.{ap, ◌∙◌}
-use native.Mathlib.Omega.{arith}
+use borrow.Author.Rules.{rules}
 use lib.ListN.{length}
 use Rattle.parted.specs.InnerJoined.{joined_as}
 use Rattle.parted.proofs.JoinSteps.{text-refused, text-sorted, text-joins}
-use Rattle.words.proofs.Clauses.{answered}
+use Rattle.words.proofs.Clauses.{answered, passed}
 use Rattle.part_joining.proofs.join_text.Goals as goal
 
+pub returns-in_err-reference : goal.returns-in_err-reference
+returns-in_err-reference c = let p = c.args.parts.now in
+    passed (search rules) (text-refused p.ucs2 p.counts.now p.octets.now c.args.reading c.args.out.now _ c.in_err-reference.ensures.answer)
+
 pub store_text-requires : goal.store_text-requires
-store_text-requires c = let a = c.args in
-    text-sorted a.ucs2 a.counts.now a.octets.now c.part_order-order.result c.part_order-order.ensures.answer c.in-Ok.is (λ k. omega (arith, (c.type_inv.octets k).fits)) _ _
-    c.part_order-order.ensures.numbers c.part_order-order.ensures.beginnings
+store_text-requires c = let p = c.args.parts.now in
+    text-sorted p.ucs2 p.counts.now p.octets.now _ c.in_ok-reference.ensures.answer c.in_ok-reference.ensures.few _ _
+    c.in_ok-reference.ensures.numbers c.in_ok-reference.ensures.beginnings
 
-pub returns-in-Ok : goal.returns-in-Ok
-returns-in-Ok c = let a = c.args in
-    let t = text-joins a.ucs2 a.counts.now a.octets.now c.part_order-order.result c.part_order-order.ensures.answer c.in-Ok.is a.reading a.out.now in
-    record { answer = c.joined.ensures ∙ ap (joined_as a.reading c.part_order-order.result.reference (length a.counts.now)) c.store_text.ensures.answer ∙ t.0; buffer = c.store_text.ensures.buffer ∙ t.1 }
+pub returns-in_err-units : goal.returns-in_err-units
+returns-in_err-units c = let p = c.args.parts.now in
+    let t = text-joins p.ucs2 p.counts.now p.octets.now _ c.in_ok-reference.ensures.answer c.args.reading c.args.out.now in
+    passed (search rules) (ap (joined_as c.args.reading c.in_ok-reference.reference (length p.counts.now)) c.in_err-units.ensures.answer ∙ t.0, c.in_err-units.ensures.buffer ∙ t.1)
 
-pub returns-in-Err : goal.returns-in-Err
-returns-in-Err c = let a = c.args in
-    answered
-    (text-refused a.ucs2 a.counts.now a.octets.now c.part_order-order.result c.part_order-order.ensures.answer a.reading a.out.now _ c.in-Err.is)
+pub returns : goal.returns
+returns c = let p = c.args.parts.now in
+    let t = text-joins p.ucs2 p.counts.now p.octets.now _ c.in_ok-reference.ensures.answer c.args.reading c.args.out.now in
+    answered (ap (joined_as c.args.reading c.in_ok-reference.reference (length p.counts.now)) c.in_ok-units.ensures.answer ∙ t.0, c.in_ok-units.ensures.buffer ∙ t.1)

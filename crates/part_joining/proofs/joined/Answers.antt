@@ -1,8 +1,0 @@
--- `joined` meets its contract: each answer is taken apart and made anew with what the parts say. Assumes nothing.
-use Rattle.part_joining.proofs.joined.Goals as goal
-
-pub returns-in-Ok : goal.returns-in-Ok
-returns-in-Ok c = simp c.in-Ok.is
-
-pub returns-in-Err : goal.returns-in-Err
-returns-in-Err c = simp c.in-Err.is
