@@ -1,7 +1,7 @@
 // How a text is cut into the parts of a long short message: how many it takes, and how much each holds.
 #![tactic(auto)]
 
-ghost use Rattle.std.specs.Prelude.{◌≡◌, cond, length};
+ghost use Rattle.std.specs.Prelude.{◌≡◌, ◌≤◌, ◌<◌, cond, length};
 ghost use Rattle.parted.specs.Parts.{room_behind, parts_holding};
 ghost use Rattle.parted.specs.Cutting.{planned_as, plan_room, part_length};
 ghost use Rattle.parted.specs.Inner.{sized_plan};
@@ -18,51 +18,50 @@ pub fn plan(ucs2: bool, units: &[u16]) -> Result<Plan, Refusal>
         return planned(true, true, units.len());
     }
     let seen = to_septets::survey(units);
-    let measured = seen.measured;
-    match measured {
+    match seen.measured {
         Ok(n) => planned(false, seen.own, n),
-        Err(unit) => Err(Refusal::Unlisted { unit: unit }),
+        Err(unit) => Err(Refusal::Unlisted { unit }),
     }
 }
 
 // The same of so many units or septets: 5.
-fn planned(ucs2: bool, plain: bool, n: usize) -> Result<Plan, Refusal>
-    ensures { result ≡ sized_plan ucs2 plain n }
+fn planned(ucs2: bool, plain: bool, content: usize) -> Result<Plan, Refusal>
+    ensures { result ≡ sized_plan ucs2 plain content }
 {
-    let total = parts_holding(ucs2, n);
+    let total = parts_for(ucs2, content);
     if 255 < total {
         return Err(Refusal::TooLong);
     }
     Ok(Plan {
-        ucs2: ucs2,
-        plain: plain,
-        total: total,
-        content: n,
+        ucs2,
+        plain,
+        total,
+        content,
     })
 }
 
-// How many parts n units or septets take, and 256 for more than 255.
-fn parts_holding(ucs2: bool, n: usize) -> usize
-    ensures { result ≡ parts_holding ucs2 n }
+// How many parts n units or septets take, or would, where a message had more than 255.
+fn parts_for(ucs2: bool, n: usize) -> usize
+    ensures few { result ≤ 255 → parts_holding ucs2 n ≡ result }
+    ensures over { 255 < result → 255 < parts_holding ucs2 n }
 {
     if n <= room_behind(ucs2, false) {
-        return 1;
+        1
+    } else {
+        n.div_ceil(room_behind(ucs2, true))
     }
-    let room = room_behind(ucs2, true);
-    if 255 * room < n {
-        return 256;
-    }
-    (n + room - 1) / room
 }
 
 // How much a short message holds, with a header of 6 octets in front or without: units of UCS2, or septets.
 fn room_behind(ucs2: bool, marked: bool) -> usize
     ensures { result ≡ room_behind ucs2 (cond marked 6 0) }
 {
-    if ucs2 {
-        return if marked { 67 } else { 70 };
+    match (ucs2, marked) {
+        (true, false) => 70,
+        (true, true) => 67,
+        (false, false) => 160,
+        (false, true) => 153,
     }
-    if marked { 153 } else { 160 }
 }
 
 // How much a part of a plan holds. It refuses nothing.
@@ -77,13 +76,5 @@ pub fn part_length(plan: Plan, k: u8) -> usize
     ensures answer { result ≡ part_length plan k }
 {
     let room = part_room(plan);
-    let before = room * (k as usize);
-    if plan.content <= before {
-        return 0;
-    }
-    let left = plan.content - before;
-    if left < room {
-        return left;
-    }
-    room
+    plan.content.saturating_sub(room * (k as usize)).min(room)
 }

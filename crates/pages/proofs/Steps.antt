@@ -7,7 +7,8 @@ use mathlib.Core.Bool.{Bool, true, false, cond}
 use mathlib.Core.List.{List, [], ◌∷◌, ◌++◌}
 use mathlib.Core.Logic.{◌⊎◌, inl, inr}
 use Prim.Native.Nat.{ℕ, ◌+◌, ◌-◌, ◌*◌, ◌/◌, ◌%◌, ◌≤◌, ◌<◌, min, max}
-use native.Mathlib.Nat.{mul_comm, mul-suc, mul-le-mul_left, mod-lt, div-add-mod'}
+use native.Mathlib.Nat.{mul_comm, mul-suc, mul-le-mul_left}
+use Rattle.std.proofs.lemmas.Grind.{div_ceil_times}
 use native.Mathlib.Decide.{dec_le}
 use native.Mathlib.Omega.{arith}
 use borrow.Author.Tests.{lt-ltb, le-ltb, ltb-false}
@@ -50,28 +51,17 @@ paged-are room n k e h = simp (e, le-ltb 15 k h)
 
 -- the rounded quotient, but 1 of nothing: it holds n, and one less does not
 rounded : (room n k : ℕ) → 0 < room → k ≡ max (n / room + min 1 (n % room)) 1 → (n ≤ room * k) × ((k ≡ 1) ⊎ (room * (k - 1) < n))
-rounded room n k some e = elim (dec_le (n % room) 0) [
-  | yes none ↦ elim (dec_le (n / room) 0) [
-    | yes zero ↦ let one : k ≡ 1 = omega arith in (omega (arith, parts, ap (λ (q : ℕ). q * room) (le-0 (n / room) zero)), inl one)
-    | no more ↦
-        let is : k ≡ n / room = omega arith in
-        let all : n ≡ room * k = omega (arith, parts, ap (λ (q : ℕ). room * q) is, mul_comm (n / room) room) in
-        (omega (arith, all), inr (omega (arith, all, last-from k (omega arith))))
-  ]
-  | no left ↦
-      let is : k ≡ n / room + 1 = omega arith in
-      let before : room * (k - 1) ≡ n / room * room = ap (λ (q : ℕ). room * q) (omega arith) ∙ mul_comm room (n / room) in
-      (omega (arith, parts, before, mod-lt n some, last-from k (omega arith)), inr (omega (arith, parts, before)))
-]
-  where
-    parts : n / room * room + n % room ≡ n
-    parts = div-add-mod' n room
-
-    le-0 : (m : ℕ) → m ≤ 0 → m ≡ 0
-    le-0 m h = omega arith
-
-    last-from : (m : ℕ) → 1 ≤ m → room * m ≡ room * (m - 1) + room
-    last-from m h = ap (λ (j : ℕ). room * j) (omega arith) ∙ mul-suc room (m - 1)
+rounded room n k some e =
+    let w = div_ceil_times n room some in
+    elim (dec_le (n / room + min 1 (n % room)) 0) [
+      | yes none ↦
+          let zero : n / room + min 1 (n % room) ≡ 0 = omega arith in
+          (omega (arith, w.0, ap (λ (q : ℕ). q * room) zero), inl (omega arith))
+      | no more ↦
+          let is : k * room ≡ (n / room + min 1 (n % room)) * room = ap (λ (q : ℕ). q * room) (omega arith) in
+          let before : room * k ≡ room * (k - 1) + room = ap (λ (j : ℕ). room * j) (omega arith) ∙ mul-suc room (k - 1) in
+          (omega (arith, w.0, is, mul_comm k room), inr (omega (arith, w.1, is, mul_comm k room, before)))
+    ]
 
 pub paged-over : (room n k : ℕ) → 0 < room → k ≡ max (n / room + min 1 (n % room)) 1 → 15 < k → paged_as room n ≡ Err TooLong
 unfolding paged_as verdict

@@ -8,14 +8,14 @@
 --   length_most, length-here, length-full, length-rest   how much a part holds
 --   part-is, part-long   part k is what stands from k times the room on
 --   count-is, octets-is, octets-full  its count and its octets
---   holding-over, holding-sum, holding-room, sized-over, sized-done, plan-units, plan-counted, plan-stopped   how the code counts
+--   holding-sum, holding-room, sized-over, sized-done, plan-units, plan-counted, plan-stopped   how the code counts
 use Rattle.words.proofs.Rules.{verdict_of}
 use mathlib.Core.Path.{◌≡◌, refl, sym, ap, ap₂, ◌∙◌, subst}
 use mathlib.Core.Bool.{Bool, true, false, cond}
 use mathlib.Core.List.{List, [], ◌∷◌}
 use mathlib.Core.Logic.{◌⊎◌, inl, inr, ⊎_elim}
-use Prim.Native.Nat.{ℕ, zero, suc, ◌+◌, ◌-◌, ◌*◌, ◌/◌, ◌≤◌, ◌<◌}
-use native.Mathlib.Nat.{mul-zero, mul-suc}
+use Prim.Native.Nat.{ℕ, zero, suc, ◌+◌, ◌-◌, ◌*◌, ◌/◌, ◌%◌, ◌≤◌, ◌<◌, min}
+use native.Mathlib.Nat.{mul-zero, mul-suc, mul_comm, mul-le-mul_left}
 use native.Mathlib.Decide.{dec_le}
 use native.Mathlib.Omega.{arith}
 use borrow.Author.Tests.{lt-ltb, le-ltb, ltb-false}
@@ -35,7 +35,8 @@ use Rattle.stream.specs.Stream.{octets_for}
 use Rattle.stream.specs.Ucs2.{unit_octets}
 use Rattle.stream.proofs.UnitOctets.{unit-octets-length}
 use Rattle.filling.specs.Filling.{fewest, part_at}
-use Rattle.filling.proofs.Parts.{fewest-before, fewest-over, fewest-most, fewest-sum}
+use Rattle.filling.proofs.Parts.{fewest-before, fewest-over, fewest-are}
+use Rattle.std.proofs.lemmas.Grind.{div_ceil_times}
 use Rattle.headed.specs.Header.{septets_over}
 use Rattle.parted.specs.declared.Plan.{Plan}
 use Rattle.parted.specs.Parts.{most_parts, room_behind, parts_holding, parts_of, is_marked, mark_size, part_header, part_content, headed_count, part_octets, part_count}
@@ -204,20 +205,27 @@ module _ (p : Plan) (t : List ℕ) (c : Cut p t) where
 
 -- ---- how the code counts
 
-pub holding-over : (ucs2 : Bool) (n : ℕ) → room_behind ucs2 0 < n → room_behind ucs2 6 * 255 < n → parts_holding ucs2 n ≡ 256
-holding-over ucs2 n more over =
-    omega (arith, parts-marked ucs2 n more, (fewest-over most_parts (room_behind ucs2 6) n (omega arith)).1 over, fewest-most most_parts (room_behind ucs2 6) n)
-
-pub holding-sum : (ucs2 : Bool) (n : ℕ) → room_behind ucs2 0 < n → n ≤ room_behind ucs2 6 * 255 → parts_holding ucs2 n ≡ (n + room_behind ucs2 6 - 1) / room_behind ucs2 6
-holding-sum ucs2 n more few = parts-marked ucs2 n more ∙ fewest-sum most_parts (room_behind ucs2 6) n (some ucs2) (omega arith) few
-  where
-    some : (b : Bool) → 0 < room_behind b 6
-    some true = omega (arith, part_room.1)
-    some false = omega (arith, part_room.0)
-
 pub holding-room : (ucs2 : Bool) → (67 ≤ room_behind ucs2 6) × (room_behind ucs2 6 ≤ 153)
 holding-room true = (omega (arith, part_room.1), omega (arith, part_room.1))
 holding-room false = (omega (arith, part_room.0), omega (arith, part_room.0))
+
+-- the rounded quotient of some n holds them, and one less does not
+rounded : (room n k : ℕ) → 0 < room → 0 < n → k ≡ n / room + min 1 (n % room) → (1 ≤ k) × ((n ≤ room * k) × (room * (k - 1) < n))
+rounded room n k some more e =
+    let w : (n ≤ k * room) × (k * room < n + room) = subst (λ (q : ℕ). (n ≤ q * room) × (q * room < n + room)) (sym e) (div_ceil_times n room some) in
+    let one : 1 ≤ k = elim (dec_le k 0) [ yes none ↦ let zero : k ≡ 0 = omega arith in absurd (omega (arith, w.0, ap (λ (q : ℕ). q * room) zero)) | no h ↦ omega arith ] in
+    let before : room * k ≡ room * (k - 1) + room = ap (λ (j : ℕ). room * j) (omega arith) ∙ mul-suc room (k - 1) in
+    (one, (omega (arith, w.0, mul_comm k room), omega (arith, w.1, mul_comm k room, before)))
+
+pub holding-sum : (ucs2 : Bool) (n k : ℕ) → room_behind ucs2 0 < n → k ≡ n / room_behind ucs2 6 + min 1 (n % room_behind ucs2 6)
+    → (k ≤ 255 → parts_holding ucs2 n ≡ k) × (255 < k → 255 < parts_holding ucs2 n)
+holding-sum ucs2 n k more e =
+    let room : ℕ = room_behind ucs2 6 in
+    let w = rounded room n k (omega (arith, holding-room ucs2)) (omega arith) e in
+    let marked = parts-marked ucs2 n more in (
+      λ few. marked ∙ fewest-are most_parts room n k w.0 few w.1.0 (inr w.1.1),
+      λ over. omega (arith, marked, (fewest-over most_parts room n (omega arith)).1 (omega (arith, w.1.1, mul-le-mul_left {m = 255} {n = k - 1} room (omega arith)))),
+    )
 
 pub sized-over : (ucs2 plain : Bool) (n : ℕ) → 255 < parts_holding ucs2 n → Err TooLong ≡ sized_plan ucs2 plain n
 unfolding sized_plan verdict

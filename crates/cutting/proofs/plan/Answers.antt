@@ -1,7 +1,7 @@
 -- `plan` meets its contract: what is measured is what the definition measures. Assumes nothing.
-use mathlib.Core.Path.{sym, ap, ◌∙◌}
-use mathlib.Core.Bool.{Bool, false}
 use Prim.Native.Nat.{ℕ}
+use mathlib.Core.Bool.{Bool, false}
+use mathlib.Core.Path.{sym, ap, ◌∙◌}
 use Rattle.letters.specs.declared.Surveyed.{Surveyed}
 use Rattle.parted.specs.Cutting.{planned_as}
 use Rattle.parted.specs.Inner.{sized_plan}
