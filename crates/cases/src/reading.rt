@@ -1,12 +1,51 @@
-// Readings in words (docs/CASES.md, "Readings"). A word goes by its number in the list of all of them, in the order of the fields.
-use crate::values::{end_at, more, nth, octet_of, part, place_of};
+// Readings in words (docs/CASES.md, "Readings"). The words of a field stand beside the numbers that they are in the reading.
+use crate::text::{Text, octet_of};
 use names::ReadingNumbers;
-use printed::put;
+use printed::Sheet;
 
-// How many words there are.
-const WORDS: usize = 45;
+static ALPHABETS: [(&[u8], u8); 4] = [(b"8bit", 1), (b"ucs2", 2), (b"wap", 3), (b"i1", 4)];
 
-pub(crate) fn plain() -> ReadingNumbers {
+static CLASSES: [(&[u8], u8); 6] = [
+    (b"class0", 1),
+    (b"class1", 2),
+    (b"class2", 3),
+    (b"class3", 4),
+    (b"user1", 5),
+    (b"user2", 6),
+];
+
+// 15 is unspecified, and has no word.
+static LANGUAGES: [(&[u8], u8); 20] = [
+    (b"german", 0),
+    (b"english", 1),
+    (b"italian", 2),
+    (b"french", 3),
+    (b"spanish", 4),
+    (b"dutch", 5),
+    (b"swedish", 6),
+    (b"danish", 7),
+    (b"portuguese", 8),
+    (b"finnish", 9),
+    (b"norwegian", 10),
+    (b"greek", 11),
+    (b"turkish", 12),
+    (b"hungarian", 13),
+    (b"polish", 14),
+    (b"czech", 16),
+    (b"hebrew", 17),
+    (b"arabic", 18),
+    (b"russian", 19),
+    (b"icelandic", 20),
+];
+
+// A notice is the sum of its group, its sense and its kind.
+static GROUPS: [(&[u8], u8); 2] = [(b"discard", 16), (b"store", 32)];
+
+static SENSES: [(&[u8], u8); 2] = [(b"active", 8), (b"inactive", 0)];
+
+static KINDS: [(&[u8], u8); 4] = [(b"voicemail", 0), (b"fax", 1), (b"mail", 2), (b"other", 3)];
+
+fn plain() -> ReadingNumbers {
     ReadingNumbers {
         alphabet: 0,
         compressed: 0,
@@ -22,130 +61,130 @@ pub(crate) fn plain() -> ReadingNumbers {
     }
 }
 
-// Whether the reading has the word. A notice is 16 of those that discard or 32 of those that store, 8 of an active one, and the kind.
-fn says(reading: ReadingNumbers, word: usize) -> bool {
-    let notice = reading.notice as usize;
-    let told = 16 <= notice;
-    match word {
-        0..=3 => reading.alphabet as usize == word + 1,
-        4 => reading.compressed == 1,
-        5..=10 => reading.class as usize == word - 4,
-        11..=25 => reading.language as usize == word - 11,
-        26..=30 => reading.language as usize == word - 10,
-        31 => reading.deletion == 1,
-        32..=33 => notice / 16 == word - 31,
-        34..=35 => told && notice / 8 % 2 == 35 - word,
-        36..=39 => told && notice % 4 == word - 36,
-        40 => reading.prefix == 1,
-        41 => reading.reserved == 1,
-        42 => reading.first != 0,
-        43 => reading.second != 0,
-        _ => reading.header == 1,
+// The words of a reading that are still to be taken.
+#[derive(Drop)]
+struct Words<'a> {
+    next: Option<&'a [u8]>,
+    rest: Text<'a>,
+}
+
+impl<'a> Words<'a> {
+    fn new(text: &'a [u8]) -> Words<'a> {
+        let mut rest = Text::new(text);
+        Words {
+            next: rest.part(b'+'),
+            rest,
+        }
+    }
+
+    fn pass(&mut self) {
+        self.next = self.rest.part(b'+');
+    }
+
+    // The number of the next word, where it is of this field.
+    fn of(&mut self, words: &[(&[u8], u8)]) -> Option<u8> {
+        let next = self.next?;
+        let (_, number) = words.iter().find(|(word, _)| *word == next)?;
+        self.pass();
+        Some(*number)
+    }
+
+    // Whether the next word is this one, as 0 or 1.
+    fn mark(&mut self, word: &[u8]) -> u8 {
+        self.of(&[(word, 1)]).unwrap_or(0)
+    }
+
+    // A notice has all three of its words or none.
+    fn notice(&mut self) -> Option<u16> {
+        match self.of(&GROUPS) {
+            None => Some(0),
+            Some(group) => {
+                let sense = self.of(&SENSES)?;
+                let kind = self.of(&KINDS)?;
+                Some(u16::from(group) + u16::from(sense) + u16::from(kind))
+            }
+        }
+    }
+
+    // The octet of a language letter, which is not 0, or 0 where the next word is none.
+    fn letter(&mut self, name: &[u8]) -> Option<u8> {
+        let Some(octet) = self.next.and_then(|word| word.strip_prefix(name)) else {
+            return Some(0);
+        };
+        self.pass();
+        octet_of(octet).filter(|letter| *letter != 0)
     }
 }
 
-// The reading with the word, whose octet is that of a language letter; a number that is no word's changes nothing.
-fn with(reading: ReadingNumbers, word: usize, octet: u8) -> ReadingNumbers {
-    let mut next = reading;
-    let notice = reading.notice % 1024;
-    let n = word % 64;
-    match n {
-        0..=3 => next.alphabet = (n + 1) as u8,
-        4 => next.compressed = 1,
-        5..=10 => next.class = (n - 4) as u8,
-        11..=25 => next.language = (n - 11) as u8,
-        26..=30 => next.language = (n - 10) as u8,
-        31 => next.deletion = 1,
-        32 => next.notice = notice + 16,
-        33 => next.notice = notice + 32,
-        34 => next.notice = notice + 8,
-        36..=39 => next.notice = notice + (n - 36) as u16,
-        40 => next.prefix = 1,
-        41 => next.reserved = 1,
-        42 => next.first = octet,
-        43 => next.second = octet,
-        44 => next.header = 1,
-        _ => next.compressed = reading.compressed,
+// The reading that the words say, each field in its place and at most once.
+pub(crate) fn reading_of(text: &[u8]) -> Option<ReadingNumbers> {
+    if text == b"plain".as_slice() {
+        return Some(plain());
     }
-    next
-}
-
-// The words of all fields, without the octet of a language letter.
-fn word_of(text: &[u8], from: usize, to: usize) -> usize {
-    place_of(
-        b"8bit|ucs2|wap|i1|compressed|class0|class1|class2|class3|user1|user2|german|english|italian|french|spanish|dutch|swedish|danish|portuguese|finnish|norwegian|greek|turkish|hungarian|polish|czech|hebrew|arabic|russian|icelandic|deletion|discard|store|active|inactive|voicemail|fax|mail|other|prefix|reserved|letter1|letter2|header|",
-        part(text, from, to),
-    )
-}
-
-// The reading with one more word. Behind a colon stands its octet.
-fn with_word(reading: ReadingNumbers, word: &[u8]) -> ReadingNumbers {
-    let colon = end_at(word, 0, b':');
-    let octet = octet_of(part(word, more(colon), word.len()));
-    with(reading, word_of(word, 0, colon), octet)
-}
-
-// The reading that the words say, in any order. No reading has more than thirteen.
-pub(crate) fn reading_of(text: &[u8]) -> ReadingNumbers {
+    let mut words = Words::new(text);
     let mut reading = plain();
-    let mut at: usize = 0;
-    for _ in 0..13usize {
-        let end = end_at(text, at, b'+');
-        reading = with_word(reading, part(text, at, end));
-        at = more(end);
+    reading.alphabet = words.of(&ALPHABETS).unwrap_or(0);
+    reading.compressed = words.mark(b"compressed");
+    reading.class = words.of(&CLASSES).unwrap_or(0);
+    reading.language = words.of(&LANGUAGES).unwrap_or(15);
+    reading.deletion = words.mark(b"deletion");
+    reading.notice = words.notice()?;
+    reading.prefix = words.mark(b"prefix");
+    reading.reserved = words.mark(b"reserved");
+    reading.first = words.letter(b"letter1:")?;
+    reading.second = words.letter(b"letter2:")?;
+    reading.header = words.mark(b"header");
+    if words.next.is_some() {
+        return None;
     }
-    reading
+    Some(reading)
 }
 
-// Puts a word of the reading behind those that stand from start on, where the reading has it.
-fn put_word(
-    out: &mut [u8],
-    at: usize,
-    start: usize,
-    reading: ReadingNumbers,
-    word: usize,
-) -> usize {
-    if !says(reading, word) {
-        return at;
+// Puts a word of the reading behind those that stand from start on.
+fn put_word(sheet: &mut Sheet, start: usize, word: &[u8]) {
+    if sheet.end != start {
+        sheet.put(b"+");
     }
-    let end = put_plus(out, at, start);
-    let named = put(
-        out,
-        end,
-        nth(
-            b"8bit|ucs2|wap|i1|compressed|class0|class1|class2|class3|user1|user2|german|english|italian|french|spanish|dutch|swedish|danish|portuguese|finnish|norwegian|greek|turkish|hungarian|polish|czech|hebrew|arabic|russian|icelandic|deletion|discard|store|active|inactive|voicemail|fax|mail|other|prefix|reserved|letter1:|letter2:|header|",
-            word,
-        ),
-    );
-    put_letter(out, named, reading, word)
+    sheet.put(word);
 }
 
-// Puts the octet of a language letter behind its word. The other words have none.
-fn put_letter(out: &mut [u8], at: usize, reading: ReadingNumbers, word: usize) -> usize {
-    let first = [reading.first];
-    let second = [reading.second];
-    match word {
-        42 => printed::put_octets(out, at, &first),
-        43 => printed::put_octets(out, at, &second),
-        _ => at,
+// Puts the word of a field that has one.
+fn put_field(sheet: &mut Sheet, start: usize, words: &[(&[u8], u8)], number: u8) {
+    if let Some((word, _)) = words.iter().find(|(_, its)| *its == number) {
+        put_word(sheet, start, word);
     }
 }
 
-fn put_plus(out: &mut [u8], at: usize, start: usize) -> usize {
-    if at == start {
-        return at;
+fn put_letter(sheet: &mut Sheet, start: usize, name: &[u8], letter: u8) {
+    if letter != 0 {
+        put_word(sheet, start, name);
+        sheet.put_octets(&[letter]);
     }
-    put(out, at, b"+")
+}
+
+fn put_notice(sheet: &mut Sheet, start: usize, notice: u16) {
+    if 16 <= notice {
+        put_field(sheet, start, &GROUPS, (notice & 0x70) as u8);
+        put_field(sheet, start, &SENSES, (notice & 8) as u8);
+        put_field(sheet, start, &KINDS, (notice & 3) as u8);
+    }
 }
 
 // Puts the words of a reading, or `plain`.
-pub(crate) fn put_reading(out: &mut [u8], at: usize, reading: ReadingNumbers) -> usize {
-    let mut end = at;
-    for word in 0..WORDS {
-        end = put_word(out, end, at, reading, word);
+pub(crate) fn put(sheet: &mut Sheet, reading: ReadingNumbers) {
+    let start = sheet.end;
+    put_field(sheet, start, &ALPHABETS, reading.alphabet);
+    put_field(sheet, start, &[(b"compressed", 1)], reading.compressed);
+    put_field(sheet, start, &CLASSES, reading.class);
+    put_field(sheet, start, &LANGUAGES, reading.language);
+    put_field(sheet, start, &[(b"deletion", 1)], reading.deletion);
+    put_notice(sheet, start, reading.notice);
+    put_field(sheet, start, &[(b"prefix", 1)], reading.prefix);
+    put_field(sheet, start, &[(b"reserved", 1)], reading.reserved);
+    put_letter(sheet, start, b"letter1:", reading.first);
+    put_letter(sheet, start, b"letter2:", reading.second);
+    put_field(sheet, start, &[(b"header", 1)], reading.header);
+    if sheet.end == start {
+        sheet.put(b"plain");
     }
-    if end == at {
-        return put(out, at, b"plain");
-    }
-    end
 }

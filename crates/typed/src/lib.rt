@@ -31,7 +31,7 @@ pub fn first_other(text: &[u8], base: u8) -> Option<usize>
     text.iter().position(|c| is_other(*c, base))
 }
 
-// Whether an octet is no digit of the base: 16 stands for none, which is no digit of any base that is typed.
+// Whether an octet is no digit of the base. Where it is no digit at all, 16 is compared with the base, which its definition has for none.
 fn is_other(c: u8, base: u8) -> bool
     ensures { result ≡ leb base (digit_of c) }
 {
@@ -114,6 +114,7 @@ fn read_elements<T: Element>(text: &[u8], out: &mut [T]) -> Option<usize>
     if text.len() % T::DIGITS != 0 || out.len() < n || first_other(text, 16).is_some() {
         return None;
     }
+    // By index: a proof does not know what is written through `iter_mut`.
     for i in 0..n {
         let at = T::DIGITS * i;
         out[i] = T::of(number_of(&text[at..at + T::DIGITS], 16).unwrap());
