@@ -63,14 +63,17 @@ digit-between c l h = digit-none c (digit-ranged c (omega arith) ∙ simp (le-lt
 pub digit-behind : (c : ℕ) → 70 < c → c < 256 → digit_answers c ≡ None
 digit-behind c l h = digit-none c (digit-ranged c h ∙ simp (le-ltb c 48 (omega arith), le-ltb c 58 (omega arith), le-ltb c 65 (omega arith), le-ltb c 71 l) refl)
 
+-- whatever an octet is, one of these says what it answers
+pub ruleset digit_cases = (digit-first, digit-letter, digit-before, digit-between, digit-behind)
+
 digit-most : (c : ℕ) → digit_of c ≤ 16
 unfolding digit_of numbers_from
 digit-most c = place-most (eqb c) digits
 
 -- 16 in the place of none
-pub digit-or : (c : ℕ) → unwrap_or (digit_answers c) 16 ≡ digit_of c
+pub digit_or : (c : ℕ) → unwrap_or (digit_answers c) 16 ≡ digit_of c
 unfolding digit_answers
-digit-or c = go (ltb (digit_of c) 16) refl
+digit_or c = go (ltb (digit_of c) 16) refl
   where
     go : (b : Bool) → ltb (digit_of c) 16 ≡ b → unwrap_or (cond b (Some (digit_of c)) None) 16 ≡ digit_of c
     go true e = refl
@@ -88,10 +91,10 @@ unfolding digit_for
 digit-for-ranged v = ap (λ (k : ℕ). get_or digits k 0) (sym (mod-mod v 16)) ∙ eqb→eq _ _ (every-below (λ (v : ℕ). eqb (digit_for v) (for_range v)) 16 for-ranged (v % 16) (omega arith))
 
 pub digit-is : (c d : ℕ) → digit_answers c ≡ Some d → digit_of c ≡ d
-digit-is c d e = sym (digit-or c) ∙ ap (λ (o : Option ℕ). unwrap_or o 16) e
+digit-is c d e = sym (digit_or c) ∙ ap (λ (o : Option ℕ). unwrap_or o 16) e
 
 pub digit-is-none : (c : ℕ) → digit_answers c ≡ None → digit_of c ≡ 16
-digit-is-none c e = sym (digit-or c) ∙ ap (λ (o : Option ℕ). unwrap_or o 16) e
+digit-is-none c e = sym (digit_or c) ∙ ap (λ (o : Option ℕ). unwrap_or o 16) e
 
 -- ---- only digits
 
@@ -317,9 +320,9 @@ module _ {A : Type 0} (f : ℕ → A) (w : ℕ) (s : List ℕ) (out : List A) wh
       rw all (refl, l)
 
 -- where the elements are the numbers themselves
-pub leave-plain : (w : ℕ) (s out : List ℕ) → elements_leave_as (λ (n : ℕ). n) w s out ≡ elements_leave w s out
+pub leave_plain : (w : ℕ) (s out : List ℕ) → elements_leave_as (λ (n : ℕ). n) w s out ≡ elements_leave w s out
 unfolding elements_leave_as elements_leave laid
-leave-plain w s out =
+leave_plain w s out =
     ap (λ (xs : List ℕ). cond (fitting w s (length out)) xs out)
     (ap₂ (λ (xs : List ℕ) (k : ℕ). xs ++ drop k out) (map-id (numbers_in w (length s / w) s)) (sym (numbers-length w (length s / w) s)))
 

@@ -14,6 +14,7 @@ pub fn digit_for(value: u8) -> u8
 }
 
 // The value of a hexadecimal digit, 0 to 9 and A to F, and none of anything else.
+#[tactic(auto, using(crate::proofs::Spelling::digit_cases))]
 pub fn digit_of(c: u8) -> Option<u8>
     ensures answer { result ≡ digit_answers c }
 {
@@ -32,6 +33,7 @@ pub fn first_other(text: &[u8], base: u8) -> Option<usize>
 }
 
 // Whether an octet is no digit of the base. Where it is no digit at all, 16 is compared with the base, which its definition has for none.
+#[tactic(auto, using(crate::proofs::Spelling::digit_or))]
 fn is_other(c: u8, base: u8) -> bool
     ensures { result ≡ leb base (digit_of c) }
 {
@@ -123,6 +125,7 @@ fn read_elements<T: Element>(text: &[u8], out: &mut [T]) -> Option<usize>
 }
 
 // Reads octets, two hexadecimal digits each. Stores them at the front of out, or nothing at all.
+#[tactic(auto, using(crate::proofs::Spelling::leave_plain))]
 pub fn read_octets(text: &[u8], out: &mut [u8]) -> Option<usize>
     ensures answer { result ≡ elements_answers 2 text.now (length out.old) }
     ensures buffer { out.new ≡ elements_leave 2 text.now out.old }
@@ -131,6 +134,7 @@ pub fn read_octets(text: &[u8], out: &mut [u8]) -> Option<usize>
 }
 
 // Reads units, four hexadecimal digits each. Stores them at the front of out, or nothing at all.
+#[tactic(auto, using(crate::proofs::Spelling::leave_plain))]
 pub fn read_units(text: &[u8], out: &mut [u16]) -> Option<usize>
     ensures answer { result ≡ elements_answers 4 text.now (length out.old) }
     ensures buffer { out.new ≡ elements_leave 4 text.now out.old }
@@ -139,6 +143,7 @@ pub fn read_units(text: &[u8], out: &mut [u16]) -> Option<usize>
 }
 
 // Whether a zero stands in front of other digits.
+#[tactic(auto, unfolding(crate::specs::Spelling::zero_led))]
 fn padded(text: &[u8]) -> bool
     ensures { result ≡ zero_led text.now }
 {

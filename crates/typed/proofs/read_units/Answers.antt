@@ -1,7 +1,0 @@
--- An element is the number that its digits spell.
-use mathlib.Core.Path.{◌∙◌}
-use Rattle.typed.proofs.Spelling.{leave-plain}
-use Rattle.typed.proofs.read_units.Goals as goal
-
-pub returns-clause-buffer : goal.returns-clause-buffer
-returns-clause-buffer c = c.read_elements.ensures.buffer ∙ leave-plain 4 c.args.text.now c.args.out.now
