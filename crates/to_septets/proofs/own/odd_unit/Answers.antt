@@ -5,4 +5,4 @@ use Rattle.letters.proofs.OwnCodes.{own-by-test}
 use Rattle.to_septets.proofs.own.odd_unit.Goals as goal
 
 pub returns : goal.returns
-returns c = own-by-test 0xffff c.args.unit (lit< tt) c.above.ensures c.above-2.ensures c.alike.ensures c.alike-2.ensures
+returns c = own-by-test 0xffff c.args.unit (lit< tt) c.saturating_sub.ensures c.saturating_sub-2.ensures c.alike.ensures c.alike-2.ensures

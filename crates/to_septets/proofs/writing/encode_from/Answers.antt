@@ -1,9 +1,9 @@
 -- `to_septets::writing::encode_from` meets its contract. The invariant: the units passed are listed, and their septets are in the buffer as far as they fit.
 -- Assumes nothing.
-use mathlib.Core.Path.{refl, ap, ◌∙◌, sym}
-use Prim.Native.Nat.{◌-◌}
+use mathlib.Core.Path.{◌≡◌, refl, ap, ◌∙◌, sym}
+use Prim.Native.Nat.{ℕ, ◌-◌}
 use native.Mathlib.Omega.{arith}
-use lib.ListN.{get_or}
+use lib.ListN.{length, get_or}
 use Rattle.lists.proofs.Places.{passed_here, passed_over}
 use Rattle.letters.specs.Tables.{escape}
 use Rattle.letters.specs.Writing.{listed_as, is_unlisted}
@@ -43,4 +43,7 @@ loop-i-preserved c = let e = c.loop-i.invariant in
     ]
 
 pub returns : goal.returns
-returns c = answered (encoded c.loop-i.invariant (passed_over (λ unit. is_unlisted (listed_as unit)) c.args.text.now c.loop-i.i c.loop-i.invariant.listed c.loop-i-test.false))
+returns c =
+    let end : c.loop-i.i ≡ length c.args.text.now = omega (arith, c.loop-i.invariant.within, c.loop-i-test.false) in
+    let e = encoded c.loop-i.invariant (passed_over (λ unit. is_unlisted (listed_as unit)) c.args.text.now c.loop-i.i c.loop-i.invariant.listed c.loop-i-test.false) in
+    record { answer = ap (λ (k : ℕ). record { units = k; septets = c.loop-i.n }) (sym end) ∙ e.0; buffer = e.1 }
