@@ -58,14 +58,11 @@ fn join_text(reading: Reading, parts: &Parts, out: &mut [u16]) -> Result<PartsJo
 {
     let mut tables = Tables::new();
     let reference = parts.order(&mut tables)?;
-    let units = store_text(
-        parts.ucs2,
-        &tables.places,
-        &tables.starts,
-        parts.counts,
-        parts.octets,
-        out,
-    )?;
+    let ordered = Ordered {
+        parts: *parts,
+        tables: &tables,
+    };
+    let units = ordered.store_text(out)?;
     Ok(PartsJoined {
         units,
         reading,
@@ -74,70 +71,12 @@ fn join_text(reading: Reading, parts: &Parts, out: &mut [u16]) -> Result<PartsJo
     })
 }
 
-// Stores the text of parts that are in order: 7.
-fn store_text<'a>(
-    ucs2: bool,
-    places: &'a [u8; 256],
-    starts: &'a [u16; 256],
-    counts: &[u8],
-    octets: &[u8],
-    out: &mut [u16],
-) -> Result<usize, Refusal>
-    requires { Sorted ucs2 counts.now octets.now places.now starts.now }
-    ensures answer { result ≡ given_answers (joined_text ucs2 counts.now octets.now) (length out.old) }
-    ensures buffer { out.new ≡ given_leaves (joined_text ucs2 counts.now octets.now) out.old }
-{
-    if !has_room(ucs2, places, starts, counts, octets, out.len()) {
-        return Err(Refusal::NoRoom);
-    }
-    if ucs2 {
-        return Ok(join_units(places, starts, counts, octets, out));
-    }
-    Ok(join_septets(places, starts, counts, octets, out))
-}
-
-// Whether so much room holds the text. Septets are never fewer than the units that they read as, so that these are counted only where the septets have
-// too little room.
-fn has_room<'a>(
-    ucs2: bool,
-    places: &'a [u8; 256],
-    starts: &'a [u16; 256],
-    counts: &[u8],
-    octets: &[u8],
-    room: usize,
-) -> bool
-    requires { Sorted ucs2 counts.now octets.now places.now starts.now }
-    ensures { result ≡ leb (length (joined_text ucs2 counts.now octets.now)) room }
-{
-    if content_length(ucs2, places, starts, counts, octets) <= room {
-        return true;
-    }
-    if ucs2 {
-        return false;
-    }
-    text_length(places, starts, counts, octets) <= room
-}
-
-// How many septets or units all parts hold.
-fn content_length<'a>(
-    ucs2: bool,
-    places: &'a [u8; 256],
-    starts: &'a [u16; 256],
-    counts: &[u8],
-    octets: &[u8],
-) -> usize
-    requires { Sorted ucs2 counts.now octets.now places.now starts.now }
-    ensures { result ≡ length (joined_content ucs2 counts.now octets.now) }
-{
-    let total = counts.len();
-    let mut n: usize = 0;
-    let mut k: usize = 0;
-    while k < total {
-        k += 1;
-        let part = part_at(ucs2, places, starts, counts, octets, k);
-        n += part.held;
-    }
-    n
+// The parts of one message, and the tables that say which of them has which number and where it begins.
+#[derive(Drop)]
+struct Ordered<'a> {
+    parts: Parts<'a>,
+    tables: &'a Tables,
+    ghost sorted: { Sorted parts.ucs2 parts.counts.now parts.octets.now tables.now.places tables.now.starts },
 }
 
 // Where the part of a number begins, its count, how much of that the header takes, and how many septets or units stand behind it.
@@ -149,121 +88,6 @@ struct PartAt {
     held: usize,
 }
 
-fn part_at<'a>(
-    ucs2: bool,
-    places: &'a [u8; 256],
-    starts: &'a [u16; 256],
-    counts: &[u8],
-    octets: &[u8],
-    k: usize,
-) -> PartAt
-    requires { Sorted ucs2 counts.now octets.now places.now starts.now × (1 ≤ k) × (k ≤ length counts.now) }
-    ensures start_value { (result.start ≡ start_at ucs2 counts.now (place_of ucs2 counts.now octets.now k)) × (result.count ≡ get_or counts.now (place_of ucs2 counts.now octets.now k) 0) }
-    ensures over_value { (result.over ≡ over_in ucs2 (part_in ucs2 counts.now octets.now (place_of ucs2 counts.now octets.now k))) × (result.held ≡ length (numbered_content ucs2 counts.now octets.now k)) }
-{
-    let place = places[k] as usize - 1;
-    let start = starts[place] as usize;
-    let count = counts[place] as usize;
-    let len = octets[start];
-    if ucs2 {
-        let size = len as usize + 1;
-        return PartAt {
-            start: start,
-            count: count,
-            over: size,
-            held: (count - size) / 2,
-        };
-    }
-    let over = header::septets_over(len);
-    PartAt {
-        start: start,
-        count: count,
-        over: over,
-        held: count - over,
-    }
-}
-
-// UCS2: lays the units of all parts over the front of out, in the order of their numbers.
-fn join_units<'a>(
-    places: &'a [u8; 256],
-    starts: &'a [u16; 256],
-    counts: &[u8],
-    octets: &[u8],
-    out: &mut [u16],
-) -> usize
-    requires { Sorted true counts.now octets.now places.now starts.now × (length (joined_text true counts.now octets.now) ≤ length out.old) }
-    ensures answer { result ≡ length (joined_text true counts.now octets.now) }
-    ensures buffer { out.new ≡ laid (joined_text true counts.now octets.now) out.old }
-{
-    let total = counts.len();
-    let mut at: usize = 0;
-    let mut k: usize = 0;
-    while k < total {
-        k += 1;
-        let part = part_at(true, places, starts, counts, octets, k);
-        let from = part.start + part.over;
-        let end = part.start + part.count;
-        at += to_units::lay_units(&octets[from..end], &mut out[at..]);
-    }
-    at
-}
-
-// 7-bit text: reads all parts into the front of out, run by run in the order of their numbers. An escape may stand last in one part, and its code first in
-// the next.
-fn join_septets<'a>(
-    places: &'a [u8; 256],
-    starts: &'a [u16; 256],
-    counts: &[u8],
-    octets: &[u8],
-    out: &mut [u16],
-) -> usize
-    requires { Sorted false counts.now octets.now places.now starts.now × (length (joined_text false counts.now octets.now) ≤ length out.old) }
-    ensures answer { result ≡ length (joined_text false counts.now octets.now) }
-    ensures buffer { out.new ≡ laid (joined_text false counts.now octets.now) out.old }
-{
-    let total = counts.len();
-    let mut half = false;
-    let mut at: usize = 0;
-    let mut k: usize = 0;
-    while k < total {
-        k += 1;
-        let mut septets = [0u8; 184];
-        let run = run_at(places, starts, counts, octets, k, half, &mut septets);
-        let begin = run.begin;
-        let end = run.end;
-        at += read_run(&septets[begin..end], &mut out[at..]);
-        half = run.half;
-    }
-    at
-}
-
-// How many units the text takes: each run is read into an array of our own.
-fn text_length<'a>(
-    places: &'a [u8; 256],
-    starts: &'a [u16; 256],
-    counts: &[u8],
-    octets: &[u8],
-) -> usize
-    requires { Sorted false counts.now octets.now places.now starts.now }
-    ensures { result ≡ length (joined_text false counts.now octets.now) }
-{
-    let total = counts.len();
-    let mut half = false;
-    let mut n: usize = 0;
-    let mut k: usize = 0;
-    while k < total {
-        k += 1;
-        let mut septets = [0u8; 184];
-        let run = run_at(places, starts, counts, octets, k, half, &mut septets);
-        let begin = run.begin;
-        let end = run.end;
-        let mut units = [0u16; 184];
-        n += read_run(&septets[begin..end], &mut units);
-        half = run.half;
-    }
-    n
-}
-
 // Where the septets of one part that are read together stand, and whether an escape is left behind them whose code is in the next part.
 #[derive(Clone, Copy)]
 struct Run {
@@ -272,36 +96,154 @@ struct Run {
     half: bool,
 }
 
-// Lays the septets of the part of a number over an array: where its run stands, behind an open escape or not. That stands in front of the text, over a
-// septet that the header takes; the escape of the last part stays in its run.
-fn run_at<'a>(
-    places: &'a [u8; 256],
-    starts: &'a [u16; 256],
-    counts: &[u8],
-    octets: &[u8],
-    k: usize,
-    half: bool,
-    septets: &mut [u8],
-) -> Run
-    requires { Sorted false counts.now octets.now places.now starts.now × (1 ≤ k) × (k ≤ length counts.now) × (length septets.old ≡ 184) }
-    ensures ready { Ready septets.new result.begin result.end }
-    ensures end_after { run_in septets.new result.begin result.end ≡ run_read (leb (length counts.now) k) (run_behind half (numbered_content false counts.now octets.now k)) }
-    ensures half_value { result.half ≡ run_open (leb (length counts.now) k) (run_behind half (numbered_content false counts.now octets.now k)) }
-{
-    let part = part_at(false, places, starts, counts, octets, k);
-    let start = part.start;
-    let count = part.count;
-    let end = start + groups::octets_for(count);
-    let _ = packing::unpack_all(Service::ShortMessage, &octets[start..end], count, septets);
-    let before = part.over - 1;
-    septets[before] = 0x1b;
-    let begin = without(part.over, half);
-    let last = counts.len() <= k;
-    let left = stays_open(last, &septets[begin..count]);
-    Run {
-        begin: begin,
-        end: without(count, left),
-        half: left,
+impl<'a> Ordered<'a> {
+    // Stores the text of the parts: 7.
+    fn store_text(&self, out: &mut [u16]) -> Result<usize, Refusal>
+        ensures answer { result ≡ given_answers (joined_text self.now.parts.ucs2 self.now.parts.counts.now self.now.parts.octets.now) (length out.old) }
+        ensures buffer { out.new ≡ given_leaves (joined_text self.now.parts.ucs2 self.now.parts.counts.now self.now.parts.octets.now) out.old }
+    {
+        if !self.has_room(out.len()) {
+            return Err(Refusal::NoRoom);
+        }
+        if self.parts.ucs2 {
+            return Ok(self.join_units(out));
+        }
+        Ok(self.join_septets(out))
+    }
+
+    // Whether so much room holds the text. Septets are never fewer than the units that they read as, so that these are counted only where the septets
+    // have too little room.
+    fn has_room(&self, room: usize) -> bool
+        ensures { result ≡ leb (length (joined_text self.now.parts.ucs2 self.now.parts.counts.now self.now.parts.octets.now)) room }
+    {
+        if self.content_length() <= room {
+            return true;
+        }
+        !self.parts.ucs2 && self.text_length() <= room
+    }
+
+    // How many septets or units all parts hold.
+    fn content_length(&self) -> usize
+        ensures { result ≡ length (joined_content self.now.parts.ucs2 self.now.parts.counts.now self.now.parts.octets.now) }
+    {
+        let mut n: usize = 0;
+        for k in 0..self.parts.counts.len() {
+            n += self.part_at(k + 1).held;
+        }
+        n
+    }
+
+    // The part of a number, from 1.
+    fn part_at(&self, k: usize) -> PartAt
+        requires { (1 ≤ k) × (k ≤ length self.now.parts.counts.now) }
+        ensures start_value { (result.start ≡ start_at self.now.parts.ucs2 self.now.parts.counts.now (place_of self.now.parts.ucs2 self.now.parts.counts.now self.now.parts.octets.now k)) × (result.count ≡ get_or self.now.parts.counts.now (place_of self.now.parts.ucs2 self.now.parts.counts.now self.now.parts.octets.now k) 0) }
+        ensures over_value { (result.over ≡ over_in self.now.parts.ucs2 (part_in self.now.parts.ucs2 self.now.parts.counts.now self.now.parts.octets.now (place_of self.now.parts.ucs2 self.now.parts.counts.now self.now.parts.octets.now k))) × (result.held ≡ length (numbered_content self.now.parts.ucs2 self.now.parts.counts.now self.now.parts.octets.now k)) }
+    {
+        let place = self.tables.places[k] as usize - 1;
+        let start = self.tables.starts[place] as usize;
+        let count = self.parts.counts[place] as usize;
+        let len = self.parts.octets[start];
+        if self.parts.ucs2 {
+            let over = len as usize + 1;
+            return PartAt {
+                start,
+                count,
+                over,
+                held: (count - over) / 2,
+            };
+        }
+        let over = header::septets_over(len);
+        PartAt {
+            start,
+            count,
+            over,
+            held: count - over,
+        }
+    }
+
+    // UCS2: lays the units of all parts over the front of out, in the order of their numbers.
+    fn join_units(&self, out: &mut [u16]) -> usize
+        requires { (self.now.parts.ucs2 ≡ true) × (length (joined_text true self.now.parts.counts.now self.now.parts.octets.now) ≤ length out.old) }
+        ensures answer { result ≡ length (joined_text true self.now.parts.counts.now self.now.parts.octets.now) }
+        ensures buffer { out.new ≡ laid (joined_text true self.now.parts.counts.now self.now.parts.octets.now) out.old }
+    {
+        let mut at: usize = 0;
+        for k in 0..self.parts.counts.len() {
+            let part = self.part_at(k + 1);
+            let from = part.start + part.over;
+            let end = part.start + part.count;
+            at += to_units::lay_units(&self.parts.octets[from..end], &mut out[at..]);
+        }
+        at
+    }
+
+    // 7-bit text: reads all parts into the front of out, run by run in the order of their numbers. An escape may stand last in one part, and its code
+    // first in the next.
+    fn join_septets(&self, out: &mut [u16]) -> usize
+        requires { (self.now.parts.ucs2 ≡ false) × (length (joined_text false self.now.parts.counts.now self.now.parts.octets.now) ≤ length out.old) }
+        ensures answer { result ≡ length (joined_text false self.now.parts.counts.now self.now.parts.octets.now) }
+        ensures buffer { out.new ≡ laid (joined_text false self.now.parts.counts.now self.now.parts.octets.now) out.old }
+    {
+        let mut half = false;
+        let mut at: usize = 0;
+        for k in 0..self.parts.counts.len() {
+            let mut septets = [0u8; 184];
+            let run = self.run_at(k + 1, half, &mut septets);
+            let begin = run.begin;
+            let end = run.end;
+            at += read_run(&septets[begin..end], &mut out[at..]);
+            half = run.half;
+        }
+        at
+    }
+
+    // How many units the text takes: each run is read into an array of our own.
+    fn text_length(&self) -> usize
+        requires { self.now.parts.ucs2 ≡ false }
+        ensures { result ≡ length (joined_text false self.now.parts.counts.now self.now.parts.octets.now) }
+    {
+        let mut half = false;
+        let mut n: usize = 0;
+        for k in 0..self.parts.counts.len() {
+            let mut septets = [0u8; 184];
+            let run = self.run_at(k + 1, half, &mut septets);
+            let begin = run.begin;
+            let end = run.end;
+            let mut units = [0u16; 184];
+            n += read_run(&septets[begin..end], &mut units);
+            half = run.half;
+        }
+        n
+    }
+
+    // Lays the septets of the part of a number over an array: where its run stands, behind an open escape or not. That stands in front of the text, over a
+    // septet that the header takes; the escape of the last part stays in its run.
+    fn run_at(&self, k: usize, half: bool, septets: &mut [u8]) -> Run
+        requires { (self.now.parts.ucs2 ≡ false) × (1 ≤ k) × (k ≤ length self.now.parts.counts.now) × (length septets.old ≡ 184) }
+        ensures ready { Ready septets.new result.begin result.end }
+        ensures end_after { run_in septets.new result.begin result.end ≡ run_read (leb (length self.now.parts.counts.now) k) (run_behind half (numbered_content false self.now.parts.counts.now self.now.parts.octets.now k)) }
+        ensures half_value { result.half ≡ run_open (leb (length self.now.parts.counts.now) k) (run_behind half (numbered_content false self.now.parts.counts.now self.now.parts.octets.now k)) }
+    {
+        let part = self.part_at(k);
+        let start = part.start;
+        let count = part.count;
+        let end = start + groups::octets_for(count);
+        let _ = packing::unpack_all(
+            Service::ShortMessage,
+            &self.parts.octets[start..end],
+            count,
+            septets,
+        );
+        let before = part.over - 1;
+        septets[before] = 0x1b;
+        let begin = without(part.over, half);
+        let last = self.parts.counts.len() <= k;
+        let left = stays_open(last, &septets[begin..count]);
+        Run {
+            begin,
+            end: without(count, left),
+            half: left,
+        }
     }
 }
 

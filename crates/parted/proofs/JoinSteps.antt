@@ -3,6 +3,7 @@
 --   join-octet           the whole call by the reading of its coding octet
 --   held-joins, held_none   what the reading holds says how the text is joined
 --   text-refused, text-sorted   the text by the order of its parts: the rest of the rules is the room
+--   sorted-as, told-as   what is known of parts and of one of them, by the name of their alphabet
 --   place-there, start_small, head-within, head_first   of the part with a number: where it stands, and its header's length octet there
 --   place-read, start-read, count-read   the same as the tables say it
 --   units-over, units-held, units-slice   UCS2: how much the header takes, how many units stand behind it, and where
@@ -150,6 +151,17 @@ module _ (ucs2 : Bool) (cs o : List ℕ) where
             ≡ settle v Err (ok_parts_joined (length (joined_text ucs2 cs o)) r reference (length cs))
         go (refused q) = refl
         go accepted = refl
+
+-- ---- parts whose alphabet is known
+
+module _ (ucs2 u : Bool) (e : ucs2 ≡ u) (cs o : List ℕ) where
+  pub sorted-as : {places starts : List ℕ} → Sorted ucs2 cs o places starts → Sorted u cs o places starts
+  sorted-as {places} {starts} s = subst (λ (x : Bool). Sorted x cs o places starts) e s
+
+  pub told-as : (k start count over : ℕ) → (start ≡ start_at ucs2 cs (place_of ucs2 cs o k)) × (count ≡ get_or cs (place_of ucs2 cs o k) 0) → over ≡ over_in ucs2 (part_in ucs2 cs o (place_of ucs2 cs o k))
+      → (start ≡ start_at u cs (place_of u cs o k)) × (count ≡ get_or cs (place_of u cs o k) 0) × (over ≡ over_in u (part_in u cs o (place_of u cs o k)))
+  told-as k start count over b t =
+      subst (λ (x : Bool). (start ≡ start_at x cs (place_of x cs o k)) × (count ≡ get_or cs (place_of x cs o k) 0) × (over ≡ over_in x (part_in x cs o (place_of x cs o k)))) e (b.0, b.1, t)
 
 -- ---- the part with a number
 

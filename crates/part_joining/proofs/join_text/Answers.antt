@@ -11,10 +11,13 @@ pub returns-in_err-reference : goal.returns-in_err-reference
 returns-in_err-reference c = let p = c.args.parts.now in
     passed (search rules) (text-refused p.ucs2 p.counts.now p.octets.now c.args.reading c.args.out.now _ c.in_err-reference.ensures.answer)
 
-pub store_text-requires : goal.store_text-requires
-store_text-requires c = let p = c.args.parts.now in
-    text-sorted p.ucs2 p.counts.now p.octets.now _ c.in_ok-reference.ensures.answer c.in_ok-reference.ensures.few _ _
-    c.in_ok-reference.ensures.numbers c.in_ok-reference.ensures.beginnings
+pub invariant_of-ordered : goal.invariant_of-ordered
+invariant_of-ordered c = let p = c.args.parts.now in
+    record {
+      sorted =
+          text-sorted p.ucs2 p.counts.now p.octets.now _ c.in_ok-reference.ensures.answer c.in_ok-reference.ensures.few _ _
+          c.in_ok-reference.ensures.numbers c.in_ok-reference.ensures.beginnings;
+    }
 
 pub returns-in_err-units : goal.returns-in_err-units
 returns-in_err-units c = let p = c.args.parts.now in
