@@ -11,7 +11,7 @@ ghost use Rattle.stream.specs.Stream.{octets_for};
 ghost use Rattle.headed.specs.Header.{concatenation_header, septets_over};
 ghost use Rattle.parted.specs.Parts.{is_marked, mark_size, headed_octets, part_octets};
 ghost use Rattle.parted.specs.Written.{count_answers, part_answers, part_leaves, all_octets, all_sizes, all_answers, all_leaves, sizes_leaves};
-ghost use Rattle.parted.specs.Inner.{counted_as, plan_count, plan_octets, text_part, text_part_leaves, text_parts, text_parts_leaves, text_sizes_leaves, codes_in, open_after};
+ghost use Rattle.parted.specs.Inner.{plan_count, plan_octets, text_part, text_part_leaves, text_parts, text_parts_leaves, text_sizes_leaves, codes_in, open_after};
 ghost use Rattle.parted.proofs.Plans.{Cut};
 ghost use Rattle.parted.proofs.Windows.{PlaceAt};
 ghost use Rattle.parted.proofs.WriteSteps.{Placed, Blank, LaidPart, laid_at};
@@ -35,20 +35,9 @@ struct Place {
 pub fn count_parts(reading: Reading, units: &[u16]) -> Result<usize, Refusal>
     ensures answer { result ≡ count_answers reading units.now }
 {
-    match writer::settle(Service::ShortMessage, reading) {
-        Ok(coding) => counted(cutting::plan(coding.ucs2(), units)),
-        Err(refusal) => Err(refusal),
-    }
-}
-
-// How many parts a plan has.
-fn counted(planned: Result<Plan, Refusal>) -> Result<usize, Refusal>
-    ensures { result ≡ counted_as planned }
-{
-    match planned {
-        Ok(plan) => Ok(plan.total),
-        Err(refusal) => Err(refusal),
-    }
+    let coding = writer::settle(Service::ShortMessage, reading)?;
+    let plan = cutting::plan(coding.ucs2(), units)?;
+    Ok(plan.total)
 }
 
 // Writes part `number`, from 1, of a text under a reading: how many octets, their count, whether a header stands in front, the coding octet, and how many
@@ -65,10 +54,8 @@ pub fn write_part(
     ensures answer { result ≡ part_answers reading reference units.now number (length out.old) }
     ensures buffer { out.new ≡ part_leaves reading reference units.now number out.old }
 {
-    match writer::settle(Service::ShortMessage, reading) {
-        Ok(coding) => write_one(coding, reference, units, number, out),
-        Err(refusal) => Err(refusal),
-    }
+    let coding = writer::settle(Service::ShortMessage, reading)?;
+    write_one(coding, reference, units, number, out)
 }
 
 // Writes a part where the coding is settled: 6, 5, 10, 7.
@@ -82,27 +69,28 @@ fn write_one(
     ensures answer { result ≡ text_part coding.ucs2 coding.octet reference units.now number (length out.old) }
     ensures buffer { out.new ≡ text_part_leaves coding.ucs2 reference units.now number out.old }
 {
-    match cutting::plan(coding.ucs2(), units) {
-        Ok(plan) => {
-            if number == 0 || plan.total < number {
-                return Err(Refusal::WrongPages);
-            }
-            let k = (number - 1) as u8;
-            let size = part_size(plan, k);
-            if out.len() < size.octets {
-                return Err(Refusal::NoRoom);
-            }
-            put_one(plan, reference, units, k, out);
-            Ok(PartWritten {
-                octets: size.octets,
-                count: size.count,
-                marked: plan.total != 1,
-                coding: coding.octet(),
-                parts: plan.total,
-            })
-        }
-        Err(refusal) => Err(refusal),
+    let plan = cutting::plan(coding.ucs2(), units)?;
+    if number == 0 || plan.total < number {
+        return Err(Refusal::WrongPages);
     }
+    let k = (number - 1) as u8;
+    let size = part_size(plan, k);
+    if out.len() < size.octets {
+        return Err(Refusal::NoRoom);
+    }
+    let message = Message {
+        plan,
+        reference,
+        units,
+    };
+    message.put_one(k, out);
+    Ok(PartWritten {
+        octets: size.octets,
+        count: size.count,
+        marked: plan.total != 1,
+        coding: coding.octet(),
+        parts: plan.total,
+    })
 }
 
 // Writes all parts of a text under a reading end to end: how many octets, whether a header stands in front of each, the coding octet, and how many parts.
@@ -119,10 +107,8 @@ pub fn write_parts(
     ensures buffer { out.new ≡ all_leaves reading reference units.now (length sizes.old) out.old }
     ensures sizes { sizes.new ≡ sizes_leaves reading reference units.now (length out.old) sizes.old }
 {
-    match writer::settle(Service::ShortMessage, reading) {
-        Ok(coding) => write_all(coding, reference, units, out, sizes),
-        Err(refusal) => Err(refusal),
-    }
+    let coding = writer::settle(Service::ShortMessage, reading)?;
+    write_all(coding, reference, units, out, sizes)
 }
 
 // Writes all parts where the coding is settled: 6, 5, 7.
@@ -137,25 +123,23 @@ fn write_all(
     ensures buffer { out.new ≡ text_parts_leaves coding.ucs2 reference units.now (length sizes.old) out.old }
     ensures sizes { sizes.new ≡ text_sizes_leaves coding.ucs2 reference units.now (length out.old) sizes.old }
 {
-    match cutting::plan(coding.ucs2(), units) {
-        Ok(plan) => {
-            let octets = all_octets(plan);
-            if out.len() < octets {
-                return Err(Refusal::NoRoom);
-            }
-            if sizes.len() < 2 * plan.total {
-                return Err(Refusal::NoRoom);
-            }
-            put_all(plan, reference, units, out, sizes);
-            Ok(PartsWritten {
-                octets: octets,
-                marked: plan.total != 1,
-                coding: coding.octet(),
-                parts: plan.total,
-            })
-        }
-        Err(refusal) => Err(refusal),
+    let plan = cutting::plan(coding.ucs2(), units)?;
+    let octets = all_octets(plan);
+    if out.len() < octets || sizes.len() < 2 * plan.total {
+        return Err(Refusal::NoRoom);
     }
+    let message = Message {
+        plan,
+        reference,
+        units,
+    };
+    message.put_all(out, sizes);
+    Ok(PartsWritten {
+        octets,
+        marked: plan.total != 1,
+        coding: coding.octet(),
+        parts: plan.total,
+    })
 }
 
 // The count of a part, and how many octets it has.
@@ -174,12 +158,12 @@ fn part_size(plan: Plan, k: u8) -> Size
         let octets = mark_size(plan.total) + 2 * n;
         return Size {
             count: octets,
-            octets: octets,
+            octets,
         };
     }
     let count = mark_septets(plan.total) + n;
     Size {
-        count: count,
+        count,
         octets: groups::octets_for(count),
     }
 }
@@ -208,99 +192,107 @@ fn mark_septets(total: usize) -> usize
     if total == 1 { 0 } else { 7 }
 }
 
-// Lays part k, counted from 0, over the front of out.
-fn put_one(plan: Plan, reference: u8, units: &[u16], k: u8, out: &mut [u8])
-    requires { Cut plan units.now × (k < plan.total) × (plan_octets plan k ≤ length out.old) }
-    ensures { out.new ≡ laid (part_octets plan.ucs2 reference plan.total (content_of plan.ucs2 units.now) (k + 1)) out.old }
-{
-    let mut septets = [0u8; 184];
-    let from = place_of(plan, units, k, &mut septets);
-    put_part(plan, reference, units, k, from, &mut septets, out);
-}
-
-// Where part k begins, counted from 0. Parts before it are laid over the array and left there: only by their escapes is it known where they end. Of units that
-// are laid as they stand a part's number tells its place, and none is looked for.
-fn place_of(plan: Plan, units: &[u16], k: u8, septets: &mut [u8]) -> Place
-    requires { Cut plan units.now × (k < plan.total) × Blank plan septets.old }
-    ensures placed { Placed plan units.now k result.unit result.half }
-    ensures blank { Blank plan septets.new }
-{
-    let mut place = Place {
-        unit: 0,
-        half: false,
-    };
-    if plan.plain {
-        return place;
-    }
-    let mut j: u8 = 0;
-    while j < k {
-        place = lay_part(plan, units, j, place, septets);
-        j += 1;
-    }
-    place
-}
-
-// Lays all parts over the front of out, end to end, and for each its count and how many octets it has over the front of sizes.
-fn put_all(plan: Plan, reference: u8, units: &[u16], out: &mut [u8], sizes: &mut [u8])
-    requires { Cut plan units.now × (140 * (plan.total - 1) + plan_octets plan (plan.total - 1) ≤ length out.old) × (2 * plan.total ≤ length sizes.old) }
-    ensures out_after { out.new ≡ laid (all_octets plan.ucs2 reference plan.total (content_of plan.ucs2 units.now) 1 plan.total) out.old }
-    ensures sizes_after { sizes.new ≡ laid (all_sizes plan.ucs2 reference plan.total (content_of plan.ucs2 units.now) 1 plan.total) sizes.old }
-{
-    let mut septets = [0u8; 184];
-    let mut place = Place {
-        unit: 0,
-        half: false,
-    };
-    let mut k: usize = 0;
-    while k < plan.total {
-        let at = 140 * k;
-        let part = k as u8;
-        place = put_part(
-            plan,
-            reference,
-            units,
-            part,
-            place,
-            &mut septets,
-            &mut out[at..],
-        );
-        let size = part_size(plan, part);
-        sizes[2 * k] = size.count as u8;
-        sizes[2 * k + 1] = size.octets as u8;
-        k += 1;
-    }
-}
-
-// Lays part k, which begins at a place, over the front of out, and answers where the next one begins.
-fn put_part(
+// A text that is cut into parts: how, the reference that they share, and its units.
+#[derive(Clone, Copy)]
+struct Message<'a> {
     plan: Plan,
     reference: u8,
-    units: &[u16],
-    k: u8,
-    from: Place,
-    septets: &mut [u8],
-    out: &mut [u8],
-) -> Place
-    requires { Cut plan units.now × (k < plan.total) × Blank plan septets.old × (plan_octets plan k ≤ length out.old) × Placed plan units.now k from.unit from.half }
-    ensures out_after { out.new ≡ laid (part_octets plan.ucs2 reference plan.total (content_of plan.ucs2 units.now) (k + 1)) out.old }
-    ensures placed { Placed plan units.now (k + 1) result.unit result.half }
-    ensures blank { Blank plan septets.new }
-{
-    let n = cutting::part_length(plan, k);
-    let numbers = Numbers {
-        reference: reference,
-        total: plan.total as u8,
-        number: k + 1,
-    };
-    if plan.ucs2 {
-        let begin = cutting::part_room(plan) * (k as usize);
-        put_units(plan.total, numbers, &units[begin..begin + n], out);
-        return from;
+    units: &'a [u16],
+    ghost cut: { Cut plan units.now },
+}
+
+impl Message<'_> {
+    // Lays part k, counted from 0, over the front of out.
+    fn put_one(self, k: u8, out: &mut [u8])
+        requires { (k < self.plan.total) × (plan_octets self.plan k ≤ length out.old) }
+        ensures { out.new ≡ laid (part_octets self.entry.plan.ucs2 self.entry.reference self.entry.plan.total (content_of self.entry.plan.ucs2 self.entry.units.now) (k + 1)) out.old }
+    {
+        let mut septets = [0u8; 184];
+        let from = self.place_of(k, &mut septets);
+        self.put_part(k, from, &mut septets, out);
     }
-    let next = lay_part(plan, units, k, from, septets);
-    let end = mark_septets(plan.total) + n;
-    put_septets(plan.total, numbers, &septets[..end], out);
-    next
+
+    // Where part k begins, counted from 0. Parts before it are laid over the array and left there: only by their escapes is it known where they end. Of units that
+    // are laid as they stand a part's number tells its place, and none is looked for.
+    fn place_of(self, k: u8, septets: &mut [u8]) -> Place
+        requires { (k < self.plan.total) × Blank self.plan septets.old }
+        ensures placed { Placed self.entry.plan self.entry.units.now k result.unit result.half }
+        ensures blank { Blank self.entry.plan septets.new }
+    {
+        let mut place = Place {
+            unit: 0,
+            half: false,
+        };
+        if self.plan.plain {
+            return place;
+        }
+        for j in 0..k {
+            place = self.lay_part(j, place, septets);
+        }
+        place
+    }
+
+    // Lays all parts over the front of out, end to end, and for each its count and how many octets it has over the front of sizes.
+    fn put_all(self, out: &mut [u8], sizes: &mut [u8])
+        requires { (140 * (self.plan.total - 1) + plan_octets self.plan (self.plan.total - 1) ≤ length out.old) × (2 * self.plan.total ≤ length sizes.old) }
+        ensures out_after { out.new ≡ laid (all_octets self.entry.plan.ucs2 self.entry.reference self.entry.plan.total (content_of self.entry.plan.ucs2 self.entry.units.now) 1 self.entry.plan.total) out.old }
+        ensures sizes_after { sizes.new ≡ laid (all_sizes self.entry.plan.ucs2 self.entry.reference self.entry.plan.total (content_of self.entry.plan.ucs2 self.entry.units.now) 1 self.entry.plan.total) sizes.old }
+    {
+        let mut septets = [0u8; 184];
+        let mut place = Place {
+            unit: 0,
+            half: false,
+        };
+        for k in 0..self.plan.total {
+            let part = k as u8;
+            place = self.put_part(part, place, &mut septets, &mut out[140 * k..]);
+            let size = part_size(self.plan, part);
+            sizes[2 * k] = size.count as u8;
+            sizes[2 * k + 1] = size.octets as u8;
+        }
+    }
+
+    // Lays part k, which begins at a place, over the front of out, and answers where the next one begins.
+    fn put_part(self, k: u8, from: Place, septets: &mut [u8], out: &mut [u8]) -> Place
+        requires { (k < self.plan.total) × Blank self.plan septets.old × (plan_octets self.plan k ≤ length out.old) × Placed self.plan self.units.now k from.unit from.half }
+        ensures out_after { out.new ≡ laid (part_octets self.entry.plan.ucs2 self.entry.reference self.entry.plan.total (content_of self.entry.plan.ucs2 self.entry.units.now) (k + 1)) out.old }
+        ensures placed { Placed self.entry.plan self.entry.units.now (k + 1) result.unit result.half }
+        ensures blank { Blank self.entry.plan septets.new }
+    {
+        let plan = self.plan;
+        let n = cutting::part_length(plan, k);
+        let numbers = Numbers {
+            reference: self.reference,
+            total: plan.total as u8,
+            number: k + 1,
+        };
+        if plan.ucs2 {
+            let begin = cutting::part_room(plan) * (k as usize);
+            put_units(plan.total, numbers, &self.units[begin..begin + n], out);
+            return from;
+        }
+        let next = self.lay_part(k, from, septets);
+        let end = mark_septets(plan.total) + n;
+        put_septets(plan.total, numbers, &septets[..end], out);
+        next
+    }
+
+    // Lays the septets of part k over an array, behind those that its header takes, which are 0, and answers where the next part begins.
+    fn lay_part(self, k: u8, from: Place, septets: &mut [u8]) -> Place
+        requires { (self.plan.ucs2 ≡ false) × (k < self.plan.total) × Blank self.plan septets.old × Placed self.plan self.units.now k from.unit from.half }
+        ensures placed { Placed self.entry.plan self.entry.units.now (k + 1) result.unit result.half }
+        ensures laid_part { LaidPart self.entry.plan self.entry.units.now k septets.new }
+    {
+        let plan = self.plan;
+        let n = cutting::part_length(plan, k);
+        let over = mark_septets(plan.total);
+        if plan.plain {
+            let begin = cutting::part_room(plan) * (k as usize);
+            to_septets::low_octets(&self.units[begin..begin + n], &mut septets[over..over + n]);
+            return from;
+        }
+        lay_pairs(self.units, from, over, n, septets)
+    }
 }
 
 // Lays a header and behind it the octets of units over the front of out.
@@ -331,28 +323,7 @@ fn put_header(total: usize, numbers: Numbers, out: &mut [u8])
     if total == 1 {
         return;
     }
-    let head = header::concatenation_header(numbers);
-    let mut i: usize = 0;
-    while i < 6 {
-        out[i] = head[i];
-        i += 1;
-    }
-}
-
-// Lays the septets of part k over an array, behind those that its header takes, which are 0, and answers where the next part begins.
-fn lay_part(plan: Plan, units: &[u16], k: u8, from: Place, septets: &mut [u8]) -> Place
-    requires { Cut plan units.now × (plan.ucs2 ≡ false) × (k < plan.total) × Blank plan septets.old × Placed plan units.now k from.unit from.half }
-    ensures placed { Placed plan units.now (k + 1) result.unit result.half }
-    ensures laid_part { LaidPart plan units.now k septets.new }
-{
-    let n = cutting::part_length(plan, k);
-    let over = mark_septets(plan.total);
-    if plan.plain {
-        let begin = cutting::part_room(plan) * (k as usize);
-        to_septets::low_octets(&units[begin..begin + n], &mut septets[over..over + n]);
-        return from;
-    }
-    lay_pairs(units, from, over, n, septets)
+    out[..6].copy_from_slice(&header::concatenation_header(numbers));
 }
 
 // Lays n septets of a text from a place on over those of an array that stand behind `over` others, and answers where they end. Behind an escape the escape is
@@ -383,9 +354,7 @@ fn encode_part(units: &[u16], unit: usize, at: usize, n: usize, septets: &mut [u
     requires { Codable units.now × (unit ≤ length units.now) × (at + n ≤ length septets.old) × (length septets.old ≤ 184) × (n ≤ length (septets_of (drop unit units.now))) }
     ensures { septets.new ≡ laid_at at (take n (septets_of (drop unit units.now))) septets.old }
 {
-    let left = units.len() - unit;
-    let most = (n + 1) / 2;
-    let some = if left < most { left } else { most };
+    let some = n.div_ceil(2).min(units.len() - unit);
     let told = to_septets::encode(&units[unit..unit + some], &mut septets[at..at + n]);
     let done = told.septets;
     if done < n {
@@ -398,8 +367,7 @@ fn encode_run(units: &[u16], unit: usize, at: usize, n: usize, septets: &mut [u8
     requires { Codable units.now × (unit ≤ length units.now) × (at + n ≤ length septets.old) × (length septets.old ≤ 184) × (n ≤ length (septets_of (drop unit units.now))) }
     ensures { septets.new ≡ laid_at at (take n (septets_of (drop unit units.now))) septets.old }
 {
-    let left = units.len() - unit;
-    let few = if left < n { left } else { n };
+    let few = n.min(units.len() - unit);
     to_septets::encode(&units[unit..unit + few], &mut septets[at..at + n]);
 }
 
@@ -416,12 +384,10 @@ fn run_of(half: bool, septets: &[u8]) -> Run
     ensures { (result.codes ≡ codes_in septets.now) × (result.half ≡ open_after half septets.now) }
 {
     let mut codes: u8 = 0;
-    let mut i: usize = 0;
-    while i < septets.len() {
-        if septets[i] != 0x1b {
+    for septet in septets {
+        if *septet != 0x1b {
             codes += 1;
         }
-        i += 1;
     }
     Run {
         codes: codes as usize,
@@ -433,9 +399,8 @@ fn run_of(half: bool, septets: &[u8]) -> Run
 fn ends_half(half: bool, septets: &[u8]) -> bool
     ensures { result ≡ open_after half septets.now }
 {
-    let n = septets.len();
-    if n == 0 {
-        return half;
+    match septets.last() {
+        Some(last) => *last == 0x1b,
+        None => half,
     }
-    septets[n - 1] == 0x1b
 }

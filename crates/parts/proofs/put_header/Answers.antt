@@ -1,13 +1,12 @@
 -- `put_header` meets its contract: the six octets are laid one after the other, and of a lone part none. Assumes nothing.
 use mathlib.Core.Path.{◌≡◌, refl, sym, ap, subst, ◌∙◌}
 use mathlib.Core.Bool.{Bool, true, cond, not}
-use mathlib.Core.List.{List, []}
+use mathlib.Core.List.{List, [], ◌++◌}
 use Prim.Native.Nat.{ℕ, ◌≤◌}
-use native.Mathlib.Omega.{arith}
 use borrow.Author.Tests.{eq-eqb, ne_eqb}
-use lib.ListN.{length, drop_of_length-le}
+use lib.ListN.{length, drop}
 use Rattle.lists.specs.Lists.{laid}
-use Rattle.lists.proofs.Laid.{lay-none, lay-rest, lay-one, lay-end}
+use Rattle.lists.proofs.Laid.{laid-copy}
 use Rattle.headed.specs.Header.{concatenation_header}
 use Rattle.parted.specs.Parts.{is_marked, mark_size}
 use Rattle.headed.proofs.Theorems.{concatenation-length}
@@ -24,20 +23,11 @@ pub returns-then-total-eq1 : goal.returns-then-total-eq1
 unfolding laid
 returns-then-total-eq1 c = simp (eq-eqb _ 1 c.if-total-eq1.true) refl
 
-pub loop-i-init : goal.loop-i-init
-loop-i-init c = (omega arith, lay-none _ _)
-
-pub bounds-out-i : goal.bounds-out-i
-bounds-out-i c = omega (arith, c.loop-i.invariant.1.long, six c.args.total c.args.out.now c.requires c.if-total-eq1.false)
-
-pub loop-i-preserved : goal.loop-i-preserved
-loop-i-preserved c = let head : List ℕ = c.concatenation_header-head.result in
-    let long : length head ≡ 6 = ap length c.concatenation_header-head.ensures.answer ∙ concatenation-length c.args.numbers in
-    (omega arith, lay-one (lay-rest head c.loop-i.i c.loop-i.invariant.1 (omega arith)) (omega (arith, six c.args.total c.args.out.now c.requires c.if-total-eq1.false)))
-
 pub returns : goal.returns
-returns c = let head : List ℕ = c.concatenation_header-head.result in
-    let long : length head ≡ 6 = ap length c.concatenation_header-head.ensures.answer ∙ concatenation-length c.args.numbers in
-    lay-end c.loop-i.invariant.1 (drop_of_length-le head {i = c.loop-i.i} (omega arith))
-    ∙ ap (λ (h : List ℕ). laid h c.args.out.now) c.concatenation_header-head.ensures.answer
-    ∙ ap (λ (m : Bool). laid (cond m (concatenation_header c.args.numbers) []) c.args.out.now) (sym (more-marked c.args.total c.if-total-eq1.false))
+returns c = let head : List ℕ = c.concatenation_header.result in
+    let out : List ℕ = c.args.out.now in
+    let long : length head ≡ 6 = ap length c.concatenation_header.ensures.answer ∙ concatenation-length c.args.numbers in
+    ap (λ (l : List ℕ). l ++ drop 6 out) c.copy_from_slice.ensures.after
+    ∙ laid-copy head out 6 (sym long)
+    ∙ ap (λ (h : List ℕ). laid h out) c.concatenation_header.ensures.answer
+    ∙ ap (λ (m : Bool). laid (cond m (concatenation_header c.args.numbers) []) out) (sym (more-marked c.args.total c.if-total-eq1.false))
