@@ -10,7 +10,7 @@ use native.Mathlib.Omega.{arith}
 use borrow.Author.Tests.{lt-ltb, le-ltb, le-leb, lt-leb, leb-false, eq-eqb, ne_eqb, leb-true, ltb-true, ltb-false}
 use lib.Dec.{T, leb, ltb, eqb, eqb→eq, leb→le}
 use lib.ListN.{length, take, drop, set, get_or}
-use Rattle.std.proofs.lemmas.List.{map-append, map-id, length-map, length-take, length-drop, set_at, take_more}
+use Rattle.std.proofs.lemmas.List.{map-append, map-id, length-map, length-take, length-drop, set_at, take_more, take_at, drop_at, length-append}
 use lib.Seq.{take-suc, take-length, drop-drop, drop-cons, get_or-take, get_or-drop}
 use Rattle.lists.specs.Lists.{laid, first_place, numbers_from}
 use Rattle.lists.proofs.Places.{Passed, passed_none, passed-more, passed_here, passed_over, place-before, place-most, place_none}
@@ -257,20 +257,44 @@ part-within w n i size some e h =
     let all : w * n ≤ size = rw e (omega arith) in
     omega arith
 
+-- the k-th chunk of w digits, behind which rest' is left of what was left before it
+pub chunk-at : (w k : ℕ) (s rest x rest' : List ℕ) → rest ≡ drop (w * k) s → rest ≡ x ++ rest' → length x ≡ w → x ≡ take w (drop (w * k) s)
+chunk-at w k s rest x rest' e f h = sym (take_at x rest' w h) ∙ ap (take w) (sym f ∙ e)
+
+pub chunk-behind : (w k : ℕ) (s rest x rest' : List ℕ) → rest ≡ drop (w * k) s → rest ≡ x ++ rest' → length x ≡ w → rest' ≡ drop (w * (k + 1)) s
+chunk-behind w k s rest x rest' e f h =
+    let next : w * k + w ≡ w * (k + 1) = rw add-one (sym (mul-suc w k)) in
+    sym (drop_at x rest' w h) ∙ ap (drop w) (sym f ∙ e) ∙ drop-drop w (w * k) s ∙ ap (λ (m : ℕ). drop m s) next
+
+pub chunk-within : (w k : ℕ) (s rest x rest' : List ℕ) → 0 < w → rest ≡ drop (w * k) s → rest ≡ x ++ rest' → length x ≡ w → k < length s / w
+chunk-within w k s rest x rest' some e f h =
+    let size : length rest ≡ length x + length rest' = ap length f ∙ length-append x rest' in
+    let left : length rest ≡ length s - w * k = ap length e ∙ length-drop (w * k) s in
+    let go : ¬ (length s / w ≤ k) = λ l. (let most : w * (length s / w) ≤ w * k = mul-le-mul_left w l in omega arith) in
+    omega arith
+
+-- where less than a chunk is left, all are taken
+pub chunks-end : (w n k : ℕ) (s rest : List ℕ) → 0 < w → n ≡ length s / w → k ≤ n → rest ≡ drop (w * k) s → length rest < w → k ≡ n
+chunks-end w n k s rest some e few is short =
+    let left : length rest ≡ length s - w * k = ap length is ∙ length-drop (w * k) s in
+    let go : ¬ (k < n) = λ l. (let within : w * k + w ≤ length s = part-within w n k (length s) some e l in omega arith) in
+    omega arith
+
 -- element i is spelled by the digits from w * i on
-pub spelled-part : (w n i a b : ℕ) (s : List ℕ) (o : Option ℕ) → only_digits 16 s ≡ true → 0 < w → a ≡ w → b ≡ w → n ≡ length s / w → i < n
-    → o ≡ number_spelled 16 (take (a * i + b - a * i) (drop (a * i) s)) → o ≡ Some (get_or (numbers_in w n s) i 0)
-spelled-part w n i a b s o only some p q e h is =
-    let within : w * i + w ≤ length s = part-within w n i (length s) some e h in
-    let size : a * i + b - a * i ≡ w = rw (p, q) (omega arith) in
-    is ∙ ap₂ (λ (k m : ℕ). number_spelled 16 (take k (drop (m * i) s))) size p
-    ∙ spelled-yes 16 (take w (drop (w * i) s)) (only-part 16 s (w * i) w only within)
+pub spelled-part : (w n i : ℕ) (s x : List ℕ) (o : Option ℕ) → only_digits 16 s ≡ true → 0 < w → n ≡ length s / w → i < n
+    → x ≡ take w (drop (w * i) s) → o ≡ number_spelled 16 x → o ≡ Some (get_or (numbers_in w n s) i 0)
+spelled-part w n i s x o only some e h at is =
+    is ∙ ap (number_spelled 16) at
+    ∙ spelled-yes 16 (take w (drop (w * i) s)) (only-part 16 s (w * i) w only (part-within w n i (length s) some e h))
     ∙ ap Some (sym (numbers-at w n s i h))
 
 -- where f makes elements of numbers, out has at its first i places the elements of xs, and from i on what the buffer had at the start
 module _ {A : Type 0} (f : ℕ → A) where
   abbrev pub Filling : List ℕ → List A → ℕ → List A → Type 0
   Filling xs start i out = out ≡ map f (take i xs) ++ drop i start
+
+  pub fill-none : (xs : List ℕ) (start : List A) → Filling xs start 0 start
+  fill-none xs start = refl
 
   pub fill-more : (xs : List ℕ) (start out : List A) (i v : ℕ) → Filling xs start i out → i < length xs → i < length start → v ≡ get_or xs i 0 → Filling xs start (i + 1) (set out i (f v))
   fill-more xs start out i v l h room e =

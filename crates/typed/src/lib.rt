@@ -116,10 +116,8 @@ fn read_elements<T: Element>(text: &[u8], out: &mut [T]) -> Option<usize>
     if text.len() % T::DIGITS != 0 || out.len() < n || first_other(text, 16).is_some() {
         return None;
     }
-    // By index: a proof does not know what is written through `iter_mut`.
-    for i in 0..n {
-        let at = T::DIGITS * i;
-        out[i] = T::of(number_of(&text[at..at + T::DIGITS], 16).unwrap());
+    for (i, digits) in text.chunks_exact(T::DIGITS).enumerate() {
+        out[i] = T::of(number_of(digits, 16).unwrap());
     }
     Some(n)
 }
