@@ -1,7 +1,7 @@
 // A broadcast page that begins with the letters of its language (document 02, W2): written and read.
 #![tactic(auto)]
 
-ghost use Rattle.std.specs.Prelude.{◌≡◌, true, false, ◌≤◌, length};
+ghost use Rattle.std.specs.Prelude.{◌≡◌, ℕ, get_or, true, false, ◌<◌, ◌≤◌, length};
 ghost use Rattle.stream.specs.SeptetCalls.{septets_fit};
 ghost use Rattle.words.specs.declared.Service.TheVariants.{Broadcast};
 ghost use Rattle.fields.specs.Letters.{are_letters};
@@ -92,10 +92,12 @@ pub fn read_lettered(
     if !spelt {
         return Err(Refusal::WrongLetters);
     }
+    let page = Page { octets, letters };
     if ucs2 {
-        return read_units(letters, octets, out);
+        page.read_units(out)
+    } else {
+        page.read_septets(out)
     }
-    read_septets(letters, octets, out)
 }
 
 // Whether so many octets are a page, and the count that of one.
@@ -121,31 +123,48 @@ fn letters_in(octets: &[u8]) -> Letters
     }
 }
 
-// 7-bit text behind the letters: the CR behind them, and what the 90 septets hold without the CRs that close them: 11, 7.
-fn read_septets(letters: Letters, octets: &[u8], out: &mut [u16]) -> Result<LetteredRead, Refusal>
-    requires { (length octets.now ≡ 82) × (letters ≡ letters_in octets.now) × (are_letters letters ≡ true) }
-    ensures answer { result ≡ lettered_reads false 0 octets.now (length out.old) }
-    ensures buffer { out.new ≡ lettered_read_leaves false 0 octets.now out.old }
-{
-    let mut septets = [0u8; 93];
-    let _ = packing::unpack_all(Service::Broadcast, octets, 0, &mut septets);
-    if septets[2] == 13 {
-        let n = closing::text_length(Service::Broadcast, &septets[3..93]);
-        let units = to_text::septets_to_text(&septets[3..3 + n], out)?;
-        return Ok(LetteredRead { units, letters });
-    }
-    Err(Refusal::WrongLetters)
+// The octets of a page, and the letters in front of its text, which are a to z.
+#[derive(Drop)]
+struct Page<'a> {
+    octets: &'a [u8],
+    letters: Letters,
+    ghost octet: { (k : ℕ) → get_or octets.now k 0 < 256 },
+    ghost whole: { length octets.now ≡ 82 },
+    ghost read: { letters ≡ letters_in octets.now },
+    ghost named: { are_letters letters ≡ true },
 }
 
-// UCS2 behind the letters: 40 units, without the 000D that close them: 7.
-fn read_units(letters: Letters, octets: &[u8], out: &mut [u16]) -> Result<LetteredRead, Refusal>
-    requires { (length octets.now ≡ 82) × (letters ≡ letters_in octets.now) × (are_letters letters ≡ true) }
-    ensures answer { result ≡ lettered_reads true 0 octets.now (length out.old) }
-    ensures buffer { out.new ≡ lettered_read_leaves true 0 octets.now out.old }
-{
-    let mut units = [0u16; 40];
-    to_units::lay_units(&octets[2..], &mut units);
-    let n = to_units::kept(&units);
-    let units = to_units::store(&units[..n], out)?;
-    Ok(LetteredRead { units, letters })
+impl Page<'_> {
+    // 7-bit text: the CR behind the letters, and what the 90 septets hold without the CRs that close them: 11, 7.
+    fn read_septets(&self, out: &mut [u16]) -> Result<LetteredRead, Refusal>
+        ensures answer { result ≡ lettered_reads false 0 self.now.octets.now (length out.old) }
+        ensures buffer { out.new ≡ lettered_read_leaves false 0 self.now.octets.now out.old }
+    {
+        let mut septets = [0u8; 93];
+        let _ = packing::unpack_all(Service::Broadcast, self.octets, 0, &mut septets);
+        if septets[2] == 13 {
+            let n = closing::text_length(Service::Broadcast, &septets[3..93]);
+            let units = to_text::septets_to_text(&septets[3..3 + n], out)?;
+            return Ok(LetteredRead {
+                units,
+                letters: self.letters,
+            });
+        }
+        Err(Refusal::WrongLetters)
+    }
+
+    // UCS2: the 40 units behind the letters, without the 000D that close them: 7.
+    fn read_units(&self, out: &mut [u16]) -> Result<LetteredRead, Refusal>
+        ensures answer { result ≡ lettered_reads true 0 self.now.octets.now (length out.old) }
+        ensures buffer { out.new ≡ lettered_read_leaves true 0 self.now.octets.now out.old }
+    {
+        let mut units = [0u16; 40];
+        to_units::lay_units(&self.octets[2..], &mut units);
+        let n = to_units::kept(&units);
+        let units = to_units::store(&units[..n], out)?;
+        Ok(LetteredRead {
+            units,
+            letters: self.letters,
+        })
+    }
 }

@@ -4,6 +4,7 @@ use mathlib.Core.Bool.{true, false}
 use mathlib.Core.List.{List}
 use Prim.Native.Nat.{ℕ}
 use native.Mathlib.Omega.{arith}
+use borrow.Author.Rules.{rules}
 use lib.ListN.{length}
 use Rattle.words.specs.declared.Service.TheVariants.{Broadcast}
 use Rattle.fields.specs.Letters.{are_letters}
@@ -32,11 +33,11 @@ returns-then-not-spelt c =
     let wrong : are_letters (letters_in a.octets.now) ≡ false = cc in
     answered (read-unnamed a.ucs2 a.count a.octets.now a.out.now fit wrong)
 
-pub read_units-requires : goal.read_units-requires
-read_units-requires c =
+pub invariant_of-page : goal.invariant_of-page
+invariant_of-page c =
     let fit : septets_fit Broadcast (length c.args.octets.now) c.args.count ≡ true = cc in
     let whole : length c.args.octets.now ≡ 82 = size c.args.octets.now c.args.count fit in
-    (whole, c.letters_in-letters.ensures (omega (arith, whole)), cc)
+    record { octet = λ k. search rules; whole = whole; read = c.letters_in-letters.ensures (omega (arith, whole)); named = cc }
 
 pub returns-then-ucs2 : goal.returns-then-ucs2
 returns-then-ucs2 c =
@@ -44,14 +45,14 @@ returns-then-ucs2 c =
     let fit : septets_fit Broadcast (length a.octets.now) a.count ≡ true = cc in
     answered (simp c.if-ucs2.true (read-counted true a.count a.octets.now a.out.now _ _ fit (c.read_units.ensures.answer, c.read_units.ensures.buffer)))
 
-pub read_septets-requires : goal.read_septets-requires
-read_septets-requires c =
+pub invariant_of-page-else-ucs2 : goal.invariant_of-page-else-ucs2
+invariant_of-page-else-ucs2 c =
     let fit : septets_fit Broadcast (length c.args.octets.now) c.args.count ≡ true = cc in
     let whole : length c.args.octets.now ≡ 82 = size c.args.octets.now c.args.count fit in
-    (whole, c.letters_in-letters.ensures (omega (arith, whole)), cc)
+    record { octet = λ k. search rules; whole = whole; read = c.letters_in-letters.ensures (omega (arith, whole)); named = cc }
 
-pub returns : goal.returns
-returns c =
+pub returns-else-ucs2 : goal.returns-else-ucs2
+returns-else-ucs2 c =
     let a = c.args in
     let fit : septets_fit Broadcast (length a.octets.now) a.count ≡ true = cc in
     answered (simp c.if-ucs2.false (read-counted false a.count a.octets.now a.out.now _ _ fit (c.read_septets.ensures.answer, c.read_septets.ensures.buffer)))

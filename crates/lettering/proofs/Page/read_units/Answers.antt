@@ -14,7 +14,7 @@ use Rattle.lettering.proofs.Steps.{read-stored}
 use Rattle.lettering.proofs.Arrays.{text-units}
 use Rattle.words.proofs.Clauses.{passed}
 use borrow.Author.Rules.{rules}
-use Rattle.lettering.proofs.read_units.Goals as goal
+use Rattle.lettering.proofs.Page.read_units.Goals as goal
 
 -- the units that are left are the front of the array
 within : (array : List ℕ) {n : ℕ} → n ≡ length (without_closing 13 array) → n ≤ length array
@@ -33,11 +33,13 @@ run o array whole e all = ap (λ (n : ℕ). take n array) e ∙ closing-front 13
 pub returns-in_err-units : goal.returns-in_err-units
 returns-in_err-units c =
     let a = c.args in
-    let r = read-stored a.letters a.octets.now a.out.now c.requires.0 c.requires.1 c.requires.2 _ (run a.octets.now c.lay_units.new.out c.requires.0 c.kept-n.ensures.answer c.lay_units.ensures.buffer) in
-    passed (search rules) (ap (behind_letters a.letters) c.in_err-units.ensures.answer ∙ r.0, c.in_err-units.ensures.buffer ∙ r.1)
+    let s = c.args.self.now in
+    let r = read-stored s.letters s.octets.now a.out.now s.whole s.read s.named _ (run s.octets.now c.lay_units.new.out s.whole c.kept-n.ensures.answer c.lay_units.ensures.buffer) in
+    passed (search rules) (ap (behind_letters s.letters) c.in_err-units.ensures.answer ∙ r.0, c.in_err-units.ensures.buffer ∙ r.1)
 
 pub returns : goal.returns
 returns c =
     let a = c.args in
-    let r = read-stored a.letters a.octets.now a.out.now c.requires.0 c.requires.1 c.requires.2 _ (run a.octets.now c.lay_units.new.out c.requires.0 c.kept-n.ensures.answer c.lay_units.ensures.buffer) in
-    record { answer = ap (behind_letters a.letters) c.in_ok-units.ensures.answer ∙ r.0; buffer = c.in_ok-units.ensures.buffer ∙ r.1 }
+    let s = c.args.self.now in
+    let r = read-stored s.letters s.octets.now a.out.now s.whole s.read s.named _ (run s.octets.now c.lay_units.new.out s.whole c.kept-n.ensures.answer c.lay_units.ensures.buffer) in
+    record { answer = ap (behind_letters s.letters) c.in_ok-units.ensures.answer ∙ r.0; buffer = c.in_ok-units.ensures.buffer ∙ r.1 }
