@@ -1,13 +1,13 @@
 // The parts of a long short message joined, in whatever order they come, into its text.
 #![tactic(auto)]
 
-ghost use Rattle.std.specs.Prelude.{◌≡◌, true, false, cond, ◌-◌, ◌≤◌, leb, length, get_or};
+ghost use Rattle.std.specs.Prelude.{◌≡◌, true, false, cond, ◌-◌, ◌%◌, ◌≤◌, eqb, leb, length, get_or};
 ghost use Rattle.lists.specs.Lists.{laid};
 ghost use Rattle.lists.proofs.Below.{Below};
 ghost use Rattle.letters.specs.Reading.{text_of};
 ghost use Rattle.stream.specs.Storing.{given_answers, given_leaves};
 ghost use Rattle.parted.specs.Joined.{start_at, part_in, place_of, joined_content, joined_text, join_answers, join_leaves};
-ghost use Rattle.parted.specs.InnerJoined.{held_joins, held_join_leaves, text_joins, text_join_leaves, Sorted, numbered_content, over_in, run_behind, run_read, run_open, run_in, Ready};
+ghost use Rattle.parted.specs.InnerJoined.{held_joins, held_join_leaves, text_joins, text_join_leaves, Sorted, numbered_content, over_in, ends_open, run_behind, run_read, run_open, run_in, Ready};
 
 use coding::Reading;
 use part_order::{Parts, Tables};
@@ -262,19 +262,17 @@ fn without(n: usize, one: bool) -> usize
 fn stays_open(last: bool, run: &[u8]) -> bool
     ensures { result ≡ run_open last run.now }
 {
-    if last {
-        return false;
+    !last && escapes_behind(run) % 2 == 1
+}
+
+// How many escapes stand at the end of a run.
+fn escapes_behind(run: &[u8]) -> usize
+    ensures { eqb (result % 2) 1 ≡ ends_open false run.now }
+{
+    match run.iter().rposition(|septet| *septet != 0x1b) {
+        Some(last) => run.len() - 1 - last,
+        None => run.len(),
     }
-    let mut half = false;
-    let mut i = run.len();
-    while 0 < i {
-        i -= 1;
-        if run[i] != 0x1b {
-            return half;
-        }
-        half = !half;
-    }
-    half
 }
 
 // Reads a run into the front of out, which has room for it: how many units.

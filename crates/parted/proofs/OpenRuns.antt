@@ -2,16 +2,17 @@
 -- Assumes nothing.
 --   open-append          whether what is put together ends in an open escape
 --   Closing s i half     going back from the end of s to place i, only escapes were met, and half says whether they are odd
---   closing-none, closing-escape, closing-other, closing-all   the same at the end, one escape further, and what it decides
+--   closing-none, closing-escape, closing-many, closing-other, closing-all   the same at the end, one escape further and many, and what it decides
+--   open-behind, open-all   by the last septet that is no escape, if there is one
 --   text-append          the text of what does not end in an open escape, and then the text of the rest
 --   open-some            what ends in an open escape has a septet
 --   settled-closed, whole-next, read_next, open_next   what is read of a run and left for the next: without the open escape, and with it in front
-use mathlib.Core.Path.{◌≡◌, refl, sym, ap, ◌∙◌}
+use mathlib.Core.Path.{◌≡◌, refl, sym, ap, subst, ◌∙◌}
 use mathlib.Core.Bool.{Bool, true, false, not, cond, true≢false, false≢true}
 use mathlib.Core.List.{List, [], ◌∷◌, ◌++◌, append_assoc}
-use Prim.Native.Nat.{ℕ, suc, ◌+◌, ◌-◌, ◌≤◌, ◌<◌}
+use Prim.Native.Nat.{ℕ, zero, suc, ◌+◌, ◌-◌, ◌%◌, ◌≤◌, ◌<◌}
 use native.Mathlib.Omega.{arith}
-use borrow.Author.Tests.{eq-eqb, ne_eqb, eqb-true}
+use borrow.Author.Tests.{eq-eqb, ne_eqb, eqb-true, eqb-false}
 use lib.Dec.{eqb}
 use lib.ListN.{length, get_or, take, length-append}
 use lib.Seq.{take-suc, take-length, take-append-add}
@@ -43,6 +44,14 @@ open-other s x e = open-append false s (x ∷ []) ∙ go (ends_open false s)
     go : (h : Bool) → ends_open h (x ∷ []) ≡ false
     go true = refl
     go false = ne_eqb x escape e
+
+-- of two numbers in a row one is odd
+odd-suc : (n : ℕ) → eqb (suc n % 2) 1 ≡ not (eqb (n % 2) 1)
+odd-suc n = go (eqb (n % 2) 1) refl
+  where
+    go : (b : Bool) → eqb (n % 2) 1 ≡ b → eqb (suc n % 2) 1 ≡ not b
+    go true e = ne_eqb (suc n % 2) 1 (λ d. omega (arith, d, eqb-true (n % 2) 1 e))
+    go false e = eq-eqb (suc n % 2) 1 (omega (arith, eqb-false (n % 2) 1 e))
 
 -- ---- from the end back
 
@@ -83,6 +92,24 @@ module _ (s : List ℕ) where
       go : (a : Bool) → cond a true false ≡ a
       go true = refl
       go false = refl
+
+  closing-many : (n : ℕ) → n ≤ length s → ((k : ℕ) → length s - n ≤ k → k < length s → get_or s k 0 ≡ escape) → Closing (length s - n) (eqb (n % 2) 1)
+  closing-many zero h all = subst (λ (i : ℕ). Closing i false) (omega arith) closing-none
+  closing-many (suc n) h all =
+      let before : Closing (length s - n) (eqb (n % 2) 1) = closing-many n (omega arith) (λ k low most. all k (omega (arith, low)) most) in
+      let one : Closing (length s - n - 1) (not (eqb (n % 2) 1)) = closing-escape (length s - n) (eqb (n % 2) 1) before (omega arith) (omega arith) (all (length s - n - 1) (omega arith) (omega arith)) in
+      subst (λ (b : Bool). Closing (length s - suc n) b) (sym (odd-suc n)) (subst (λ (i : ℕ). Closing i (not (eqb (n % 2) 1))) (omega arith) one)
+
+  -- behind the last septet that is no escape, and of escapes alone
+  pub open-behind : (i : ℕ) → i < length s → (get_or s i 0 ≡ escape → ⊥) → ((k : ℕ) → i < k → k < length s → get_or s k 0 ≡ escape) → eqb ((length s - 1 - i) % 2) 1 ≡ ends_open false s
+  open-behind i h other all =
+      let n : ℕ = length s - 1 - i in
+      let here : length s - n - 1 ≡ i = omega arith in
+      closing-other (length s - n) (eqb (n % 2) 1) (closing-many n (omega arith) (λ k low most. all k (omega (arith, low)) most)) (omega arith) (omega arith)
+      (λ e. other (ap (λ (k : ℕ). get_or s k 0) (sym here) ∙ e))
+
+  pub open-all : ((k : ℕ) → k < length s → get_or s k 0 ≡ escape) → eqb (length s % 2) 1 ≡ ends_open false s
+  open-all all = closing-all (length s - length s) (eqb (length s % 2) 1) (closing-many (length s) (omega arith) (λ k low most. all k most)) (omega arith)
 
 -- ---- the text of both
 
