@@ -27,11 +27,13 @@ use Rattle.names.specs.Names.{numbers_of, named_reading, under_reading}
 use Rattle.names.specs.Joined.{joined_numbers}
 use Rattle.names.specs.Said.{coded_in, held_by, reading_heard, heard_by}
 use Rattle.names.proofs.Named.{never}
-use Rattle.std.specs.Prelude.{Option, Ok, Err, Some, None}
+use Rattle.std.specs.Prelude.{Option, Result, Ok, Err, Some, None}
+use Rattle.std.specs.Result.{is_ok}
+use Rattle.words.specs.declared.Refusal.{Refusal}
 
 -- ---- plain text
 
-pub plain-heard : (s : Service) (ucs2 : Bool) → heard.Text ucs2 (joined_numbers (numbers_of (plain_in ucs2))) ≡ held_by (holds_text s (plain_in ucs2)) (plain_in ucs2)
+pub plain-heard : (s : Service) (ucs2 : Bool) → Ok (heard.Text ucs2 (joined_numbers (numbers_of (plain_in ucs2)))) ≡ held_by (holds_text s (plain_in ucs2)) (plain_in ucs2)
 unfolding holds_text text_rules verdict
 plain-heard s true = refl
 plain-heard s false = refl
@@ -40,6 +42,13 @@ plain-heard s false = refl
 pub old-plain : (o : ℕ) (r : Reading) (ucs2 : Bool) → octet_reads OldPage o ≡ Ok r → not ucs2 ≡ true → octet_reads OldPage o ≡ Ok (plain_in ucs2)
 old-plain o r true e f = never f
 old-plain o r false e f = e ∙ ap Ok (sym (read-given OldPage o r (sym e)))
+
+pub old-read : (o : ℕ) (ucs2 : Bool) → ucs2 ≡ false → is_ok (octet_reads OldPage o) ≡ true → octet_reads OldPage o ≡ Ok (plain_in ucs2)
+old-read o ucs2 f t = go (octet_reads OldPage o) refl
+  where
+    go : (x : Result Reading Refusal) → octet_reads OldPage o ≡ x → octet_reads OldPage o ≡ Ok (plain_in ucs2)
+    go (Ok r) e = old-plain o r ucs2 e (ap not f)
+    go (Err q) e = never (sym (ap is_ok e) ∙ t)
 
 -- ---- a reading in numbers
 
@@ -66,11 +75,11 @@ plain-reading-heard Ussd ucs2 = refl
 plain-reading-heard OldPage ucs2 = refl
 
 -- a page behind letters is told by its octet
-page-heard : (ucs2 : Bool) → heard.Lettered ucs2 ≡ reading_heard Broadcast (lettered_in ucs2)
+page-heard : (ucs2 : Bool) → Ok (heard.Lettered ucs2) ≡ reading_heard Broadcast (lettered_in ucs2)
 page-heard true = refl
 page-heard false = refl
 
-pub lettered-heard : (s : Service) (o : ℕ) → o < 256 → is_lettered s (read_under s o) ≡ true → heard.Lettered (eqb o 0x11) ≡ heard_by s (octet_reads s o)
+pub lettered-heard : (s : Service) (o : ℕ) → o < 256 → is_lettered s (read_under s o) ≡ true → Ok (heard.Lettered (eqb o 0x11)) ≡ heard_by s (octet_reads s o)
 lettered-heard ShortMessage o h l = never l
 lettered-heard Broadcast o h l = page-heard (eqb o 0x11) ∙ ap (heard_by Broadcast) (sym (lettered-read Broadcast o h l))
 lettered-heard Ussd o h l = never l
@@ -79,4 +88,4 @@ lettered-heard OldPage o h l = never l
 -- and every other message by what its reading holds
 pub clear-heard : (s : Service) (o : ℕ) (r : Reading) → is_lettered s (read_under s o) ≡ false → octet_reads s o ≡ Ok r → held_by (holds_text s r) r ≡ heard_by s (octet_reads s o)
 clear-heard s o r l e =
-    ap (λ (b : Bool). cond b (heard.Lettered (is_ucs2 r.alphabet)) (held_by (holds_text s r) r)) (sym (read-clear s o r l (sym e))) ∙ ap (heard_by s) (sym e)
+    ap (λ (b : Bool). cond b (Ok (heard.Lettered (is_ucs2 r.alphabet))) (held_by (holds_text s r) r)) (sym (read-clear s o r l (sym e))) ∙ ap (heard_by s) (sym e)

@@ -25,14 +25,14 @@ use Rattle.coding.specs.declared.Held.TheVariants as held
 unfoldable pub coded_in : Service → ReadingNumbers → MessageCoding
 coded_in s x = under_reading (named_reading x) (coding.Text (Err Unwritable)) (λ r. coded_as s r)
 
-abbrev pub held_by : Result Held Refusal → Reading → Heard
-held_by (Ok held.Septets) r = heard.Text false (joined_numbers (numbers_of r))
-held_by (Ok held.Units) r = heard.Text true (joined_numbers (numbers_of r))
-held_by (Err q) r = heard.Refused q
+abbrev pub held_by : Result Held Refusal → Reading → Result Heard Refusal
+held_by (Ok held.Septets) r = Ok (heard.Text false (joined_numbers (numbers_of r)))
+held_by (Ok held.Units) r = Ok (heard.Text true (joined_numbers (numbers_of r)))
+held_by (Err q) r = Err q
 
-abbrev pub reading_heard : Service → Reading → Heard
-reading_heard s r = cond (is_lettered s r) (heard.Lettered (is_ucs2 r.alphabet)) (held_by (holds_text s r) r)
+abbrev pub reading_heard : Service → Reading → Result Heard Refusal
+reading_heard s r = cond (is_lettered s r) (Ok (heard.Lettered (is_ucs2 r.alphabet))) (held_by (holds_text s r) r)
 
-abbrev pub heard_by : Service → Result Reading Refusal → Heard
+abbrev pub heard_by : Service → Result Reading Refusal → Result Heard Refusal
 heard_by s (Ok r) = reading_heard s r
-heard_by s (Err q) = heard.Refused q
+heard_by s (Err q) = Err q

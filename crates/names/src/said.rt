@@ -5,10 +5,13 @@ ghost use Rattle.coding.specs.OctetRead.{octet_reads};
 ghost use Rattle.coding.specs.Holding.{holds_text};
 ghost use Rattle.coding.specs.Readings.{plain_in};
 ghost use Rattle.words.specs.declared.Service.TheVariants.{OldPage};
+ghost use Rattle.names.specs.Names.{numbers_of};
+ghost use Rattle.names.specs.Joined.{joined_numbers};
+ghost use Rattle.names.specs.declared.said.Heard.TheVariants.{Text};
 ghost use Rattle.names.specs.Said.{coded_in, held_by, heard_by};
 
 use crate::{JoinedNumbers, ReadingNumbers};
-use coding::{Held, Reading};
+use coding::Reading;
 use words::{Refusal, Service};
 use writer::MessageCoding;
 
@@ -18,7 +21,6 @@ pub enum Heard {
     Text { ucs2: bool, reading: JoinedNumbers },
     // A broadcast page behind the letters of its language.
     Lettered { ucs2: bool },
-    Refused(Refusal),
 }
 
 // What the numbers of a reading settle of one message that is written.
@@ -38,25 +40,23 @@ pub fn coded(service: Service, numbers: ReadingNumbers) -> MessageCoding
 }
 
 // What one message is read with under a coding octet.
-pub fn hears(service: Service, coding: u8) -> Heard
+pub fn hears(service: Service, coding: u8) -> Result<Heard, Refusal>
     ensures answer { result ≡ heard_by service (octet_reads service coding) }
 {
     if is_plain(service, false, coding) {
-        return plain_heard(service, false);
+        return Ok(plain_heard(false));
     }
     if is_plain(service, true, coding) {
-        return plain_heard(service, true);
+        return Ok(plain_heard(true));
     }
     // Of the two octets 0001 0001 is UCS2.
     if coding::lettered_octet(service, coding) {
-        return Heard::Lettered {
+        return Ok(Heard::Lettered {
             ucs2: coding == 0x11,
-        };
+        });
     }
-    match coding::read_octet(service, coding) {
-        Ok(reading) => reading_heard(service, reading),
-        Err(refusal) => Heard::Refused(refusal),
-    }
+    let reading = coding::read_octet(service, coding)?;
+    reading_heard(service, reading)
 }
 
 // True only for an octet of plain text: the one that it is written with, and all that an old page may have.
@@ -64,10 +64,8 @@ fn is_plain(service: Service, ucs2: bool, coding: u8) -> bool
     ensures { result ≡ true → octet_reads service coding ≡ Ok (plain_in ucs2) }
 {
     match service {
-        Service::ShortMessage => is_written(service, ucs2, coding),
-        Service::Broadcast => is_written(service, ucs2, coding),
-        Service::Ussd => is_written(service, ucs2, coding),
         Service::OldPage => is_old(ucs2, coding),
+        _ => is_written(service, ucs2, coding),
     }
 }
 
@@ -75,45 +73,33 @@ fn is_plain(service: Service, ucs2: bool, coding: u8) -> bool
 fn is_written(service: Service, ucs2: bool, coding: u8) -> bool
     ensures { result ≡ true → octet_reads service coding ≡ Ok (plain_in ucs2) }
 {
-    match coding::plain_octet(service, ucs2) {
-        Ok(octet) => octet == coding,
-        Err(_) => false,
-    }
+    matches!(coding::plain_octet(service, ucs2), Ok(octet) if octet == coding)
 }
 
 // True only for an octet of an old page, which is 7-bit text.
 fn is_old(ucs2: bool, coding: u8) -> bool
     ensures { result ≡ true → octet_reads OldPage coding ≡ Ok (plain_in ucs2) }
 {
-    match coding::read_octet(Service::OldPage, coding) {
-        Ok(_) => !ucs2,
-        Err(_) => false,
-    }
+    !ucs2 && coding::read_octet(Service::OldPage, coding).is_ok()
 }
 
 // What plain text is read with.
-fn plain_heard(service: Service, ucs2: bool) -> Heard
-    ensures { result ≡ held_by (holds_text service (plain_in ucs2)) (plain_in ucs2) }
+fn plain_heard(ucs2: bool) -> Heard
+    ensures { result ≡ Text ucs2 (joined_numbers (numbers_of (plain_in ucs2))) }
 {
     Heard::Text {
-        ucs2: ucs2,
+        ucs2,
         reading: crate::join(crate::plain_numbers(ucs2)),
     }
 }
 
 // What a text by itself is read with under any reading.
-fn reading_heard(service: Service, reading: Reading) -> Heard
+fn reading_heard(service: Service, reading: Reading) -> Result<Heard, Refusal>
     ensures { result ≡ held_by (holds_text service reading) reading }
 {
-    match reading.holds(service) {
-        Ok(Held::Septets) => Heard::Text {
-            ucs2: false,
-            reading: crate::join(crate::numbers(reading)),
-        },
-        Ok(Held::Units) => Heard::Text {
-            ucs2: true,
-            reading: crate::join(crate::numbers(reading)),
-        },
-        Err(refusal) => Heard::Refused(refusal),
-    }
+    let text = reading.holds(service)?;
+    Ok(Heard::Text {
+        ucs2: text.is_ucs2(),
+        reading: crate::join(crate::numbers(reading)),
+    })
 }

@@ -1,20 +1,25 @@
--- `any_reading` meets its contract: the fields name something, and then the notice decides. Assumes nothing.
-use Rattle.names.proofs.Named.{fields-named}
-use Rattle.names.specs.Names.{named_reading}
-use mathlib.Core.Path.{sym, ◌∙◌}
+-- `any_reading` meets its contract: the first field that names nothing decides, and else all of them do. Assumes nothing.
+use Rattle.std.proofs.Common.{◌∙◌, sym}
+use Rattle.names.proofs.Fields.{flags-named, no-flags, no-alphabet, no-class, no-language, no-notice, found}
 use Rattle.names.proofs.any_reading.Goals as goal
 
-pub with-requires : goal.with-requires
-with-requires c = fields-named _ (sym c.fields.ensures ∙ c.if-fields.true)
+pub returns-then-not-flags : goal.returns-then-not-flags
+returns-then-not-flags c = no-flags c.args.numbers (sym (flags-named c.args.numbers) ∙ sym c.flags.ensures ∙ c.if-not-flags.true)
 
-pub returns-in-Some : goal.returns-in-Some
-unfolding named_reading
-returns-in-Some c = simp (c.with.ensures, sym c.fields.ensures ∙ c.if-fields.true, sym c.notice.ensures ∙ c.in-Some.is)
+pub returns-in_err-get : goal.returns-in_err-get
+returns-in_err-get c = c.from_residual.ensures ∙ no-alphabet c.args.numbers (sym c.in_err-get.ensures.lookup.0)
 
-pub returns-in-None : goal.returns-in-None
-unfolding named_reading
-returns-in-None c = simp (sym c.fields.ensures ∙ c.if-fields.true, sym c.notice.ensures ∙ c.in-None.is)
+pub returns-in_err-get-2 : goal.returns-in_err-get-2
+returns-in_err-get-2 c = c.from_residual-in_err-get-2.ensures ∙ no-class c.args.numbers (sym c.in_err-get-2.ensures.lookup.0)
 
-pub returns-else-fields : goal.returns-else-fields
-unfolding named_reading
-returns-else-fields c = simp (sym c.fields.ensures ∙ c.if-fields.false)
+pub returns-in_err-get-3 : goal.returns-in_err-get-3
+returns-in_err-get-3 c = c.from_residual-in_err-get-3.ensures ∙ no-language c.args.numbers (sym c.in_err-get-3.ensures.lookup.0)
+
+pub returns-in_err-notice : goal.returns-in_err-notice
+returns-in_err-notice c = c.from_residual-in_err-notice.ensures ∙ no-notice c.args.numbers c.in_err-notice.ensures
+
+pub returns : goal.returns
+returns c =
+    found c.args.numbers _ _ _ _ (sym (flags-named c.args.numbers) ∙ sym c.flags.ensures ∙ c.if-not-flags.false)
+    (sym c.in_ok-get.ensures.lookup.0) c.in_ok-get.ensures.lookup.1 (sym c.in_ok-get-2.ensures.lookup.0) c.in_ok-get-2.ensures.lookup.1
+    (sym c.in_ok-get-3.ensures.lookup.0) c.in_ok-get-3.ensures.lookup.1 c.in_ok-notice.ensures

@@ -1,5 +1,6 @@
 -- `notice` meets its contract: its tests are the definition's. Assumes nothing.
 use Rattle.names.specs.Names.{named_notice}
+use Rattle.std.proofs.Common.{rules, ◌≡◌, ℕ, ◌/◌}
 use borrow.Author.Tests.{eq-eqb, ne_eqb}
 use Rattle.names.proofs.notice.Goals as goal
 
@@ -7,22 +8,28 @@ pub returns-then-number-eq0 : goal.returns-then-number-eq0
 unfolding named_notice
 returns-then-number-eq0 c = simp (eq-eqb _ _ c.if-number-eq0.true)
 
-pub returns-then-group-eq4 : goal.returns-then-group-eq4
+pub returns-in-4 : goal.returns-in-4
 unfolding named_notice
-returns-then-group-eq4 c = simp (ne_eqb _ _ c.if-number-eq0.false, eq-eqb _ _ c.if-group-eq4.true)
+returns-in-4 c = simp (ne_eqb _ _ c.if-number-eq0.false, c.in-4.is)
 
-pub returns-then-group-eq6 : goal.returns-then-group-eq6
+pub returns-in-6 : goal.returns-in-6
 unfolding named_notice
-returns-then-group-eq6 c = simp (ne_eqb _ _ c.if-number-eq0.false, ne_eqb _ _ c.if-group-eq4.false, eq-eqb _ _ c.if-group-eq6.true)
+returns-in-6 c = simp (ne_eqb _ _ c.if-number-eq0.false, c.in-6.is)
 
-pub returns-then-group-eq8 : goal.returns-then-group-eq8
+pub returns-in-8 : goal.returns-in-8
 unfolding named_notice
-returns-then-group-eq8 c = simp (ne_eqb _ _ c.if-number-eq0.false, ne_eqb _ _ c.if-group-eq4.false, ne_eqb _ _ c.if-group-eq6.false, eq-eqb _ _ c.if-group-eq8.true)
+returns-in-8 c = simp (ne_eqb _ _ c.if-number-eq0.false, c.in-8.is)
 
-pub returns-then-group-eq10 : goal.returns-then-group-eq10
+pub returns-in-10 : goal.returns-in-10
 unfolding named_notice
-returns-then-group-eq10 c = simp (ne_eqb _ _ c.if-number-eq0.false, ne_eqb _ _ c.if-group-eq4.false, ne_eqb _ _ c.if-group-eq6.false, ne_eqb _ _ c.if-group-eq8.false, eq-eqb _ _ c.if-group-eq10.true)
+returns-in-10 c = simp (ne_eqb _ _ c.if-number-eq0.false, c.in-10.is)
 
-pub returns : goal.returns
+pub returns-in_default : goal.returns-in_default
 unfolding named_notice
-returns c = simp (ne_eqb _ _ c.if-number-eq0.false, ne_eqb _ _ c.if-group-eq4.false, ne_eqb _ _ c.if-group-eq6.false, ne_eqb _ _ c.if-group-eq8.false, ne_eqb _ _ c.if-group-eq10.false)
+returns-in_default c =
+    let group : ℕ = c.args.number / 4 in
+    let a : group ≡ 4 → ⊥ = search rules in
+    let b : group ≡ 6 → ⊥ = search rules in
+    let d : group ≡ 8 → ⊥ = search rules in
+    let e : group ≡ 10 → ⊥ = search rules in
+    simp (ne_eqb _ _ c.if-number-eq0.false, ne_eqb _ _ a, ne_eqb _ _ b, ne_eqb _ _ d, ne_eqb _ _ e)

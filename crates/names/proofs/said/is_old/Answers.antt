@@ -1,8 +1,8 @@
 -- `is_old` meets its contract: what an old page reads as is plain 7-bit text. Assumes nothing.
-use Rattle.names.proofs.Settled.{old-plain}
-use mathlib.Core.Path.{sym, ◌∙◌}
+use Rattle.std.proofs.Common.{◌∙◌, sym, ap}
+use Rattle.std.specs.Result.{is_ok}
+use Rattle.names.proofs.Settled.{old-read}
 use Rattle.names.proofs.said.is_old.Goals as goal
 
-pub returns-in-Ok : goal.returns-in-Ok
-returns-in-Ok c = let a = c.args in
-    old-plain a.coding _ a.ucs2 (sym c.read_octet.ensures.answer ∙ c.in-Ok.is)
+pub returns-then-not-ucs2 : goal.returns-then-not-ucs2
+returns-then-not-ucs2 c = λ e. old-read c.args.coding c.args.ucs2 c.if-not-ucs2.true (ap is_ok (sym c.read_octet.ensures.answer) ∙ sym c.is_ok.ensures.value ∙ e)
