@@ -37,10 +37,10 @@ pub fn done(count: u32, written: usize, coding: u8) -> Answer
 {
     Answer {
         refusal: 0,
-        count: count,
+        count,
         position: 0,
-        written: written,
-        coding: coding,
+        written,
+        coding,
     }
 }
 
@@ -48,12 +48,10 @@ pub fn done(count: u32, written: usize, coding: u8) -> Answer
 pub fn refused(refusal: Refusal) -> Answer
     ensures answer { result ≡ refused_answer refusal }
 {
-    let number = refusal.number() as u32;
-    let position = refusal.position();
     Answer {
-        refusal: number,
+        refusal: refusal.number() as u32,
         count: 0,
-        position: position,
+        position: refusal.position(),
         written: 0,
         coding: 0,
     }
@@ -63,13 +61,12 @@ pub fn refused(refusal: Refusal) -> Answer
 fn read(written: usize, holds: u32, reading: Reading) -> ReadAnswer
     ensures { result ≡ read_answer written holds reading }
 {
-    let numbers = names::numbers(reading);
     ReadAnswer {
         refusal: 0,
         position: 0,
-        written: written,
-        holds: holds,
-        reading: numbers,
+        written,
+        holds,
+        reading: names::numbers(reading),
     }
 }
 
@@ -78,13 +75,12 @@ pub fn read_refused(refusal: Refusal) -> ReadAnswer
     ensures answer { result ≡ read_refused_answer refusal }
 {
     let plain = refused(refusal);
-    let numbers = names::numbers(Reading::plain());
     ReadAnswer {
         refusal: plain.refusal,
         position: plain.position,
         written: 0,
         holds: 0,
-        reading: numbers,
+        reading: names::numbers(Reading::plain()),
     }
 }
 
@@ -147,7 +143,7 @@ pub fn shown(reading: JoinedNumbers, answer: Result<usize, Refusal>) -> MessageT
             refusal: 0,
             position: 0,
             written: units,
-            reading: reading,
+            reading,
         },
         Err(refusal) => message_refused(refusal),
     }
@@ -158,15 +154,12 @@ pub fn lettered_shown(ucs2: bool, answer: Result<LetteredRead, Refusal>) -> Mess
     ensures answer { result ≡ lettered_told ucs2 answer }
 {
     match answer {
-        Ok(LetteredRead { units, letters }) => {
-            let reading = names::join(names::lettered_numbers(ucs2, letters));
-            MessageTold {
-                refusal: 0,
-                position: 0,
-                written: units,
-                reading: reading,
-            }
-        }
+        Ok(LetteredRead { units, letters }) => MessageTold {
+            refusal: 0,
+            position: 0,
+            written: units,
+            reading: names::join(names::lettered_numbers(ucs2, letters)),
+        },
         Err(refusal) => message_refused(refusal),
     }
 }
@@ -176,12 +169,11 @@ pub fn message_refused(refusal: Refusal) -> MessageTold
     ensures answer { result ≡ refused_told refusal }
 {
     let plain = refused(refusal);
-    let reading = names::join(names::numbers(Reading::plain()));
     MessageTold {
         refusal: plain.refusal,
         position: plain.position,
         written: 0,
-        reading: reading,
+        reading: names::join(names::numbers(Reading::plain())),
     }
 }
 
@@ -189,13 +181,11 @@ pub fn message_refused(refusal: Refusal) -> MessageTold
 pub fn message_told(answer: MessageTold) -> ReadAnswer
     ensures answer { result ≡ told_answer answer }
 {
-    let joined = answer.reading;
-    let reading = names::part(joined);
     ReadAnswer {
         refusal: answer.refusal,
         position: answer.position,
         written: answer.written,
         holds: 0,
-        reading: reading,
+        reading: names::part(answer.reading),
     }
 }

@@ -79,9 +79,9 @@ pub fn pages_done(pages: u32, written: usize) -> PagesAnswer
 {
     PagesAnswer {
         refusal: 0,
-        pages: pages,
+        pages,
         position: 0,
-        written: written,
+        written,
     }
 }
 
@@ -102,12 +102,11 @@ pub fn pages_refused(refusal: Refusal) -> PagesAnswer
 pub fn page(answer: PagesAnswer, octets: [u8; 88]) -> PageAnswer
     ensures answer { result ≡ page_answer answer octets }
 {
-    let block = Block { octets: octets };
     PageAnswer {
         refusal: answer.refusal,
         pages: answer.pages,
         position: answer.position,
-        block: block,
+        block: Block { octets },
     }
 }
 
@@ -121,15 +120,14 @@ pub fn join_done(
 ) -> JoinAnswer
     ensures answer { result ≡ join_done_answer pages written sequence identifier reading }
 {
-    let numbers = names::numbers(reading);
     JoinAnswer {
         refusal: 0,
-        pages: pages,
+        pages,
         position: 0,
-        written: written,
-        sequence: sequence,
-        identifier: identifier,
-        reading: numbers,
+        written,
+        sequence,
+        identifier,
+        reading: names::numbers(reading),
     }
 }
 
@@ -138,7 +136,6 @@ pub fn join_refused(refusal: Refusal) -> JoinAnswer
     ensures answer { result ≡ join_refused_answer refusal }
 {
     let plain = answers::refused(refusal);
-    let numbers = names::numbers(Reading::plain());
     JoinAnswer {
         refusal: plain.refusal,
         pages: 0,
@@ -146,6 +143,6 @@ pub fn join_refused(refusal: Refusal) -> JoinAnswer
         written: 0,
         sequence: 0,
         identifier: 0,
-        reading: numbers,
+        reading: names::numbers(Reading::plain()),
     }
 }

@@ -54,15 +54,14 @@ pub struct PartsJoinAnswer {
 pub fn parts_done(parts: u32, written: usize, count: u32, coding: u8, marked: bool) -> PartsAnswer
     ensures answer { result ≡ parts_done_answer parts written count coding marked }
 {
-    let mark = flag(marked);
     PartsAnswer {
         refusal: 0,
-        parts: parts,
+        parts,
         position: 0,
-        written: written,
-        count: count,
-        coding: coding,
-        mark: mark,
+        written,
+        count,
+        coding,
+        mark: flag(marked),
     }
 }
 
@@ -87,11 +86,13 @@ pub fn part_read(answer: Result<PartRead, Refusal>) -> PartAnswer
     ensures answer { result ≡ part_read_answer answer }
 {
     match answer {
-        Ok(PartRead {
-            units,
-            reading,
-            concatenation,
-        }) => part_done(units, reading, concatenation),
+        Ok(
+            PartRead {
+                units,
+                reading,
+                concatenation,
+            },
+        ) => part_done(units, reading, concatenation),
         Err(refusal) => part_refused(refusal),
     }
 }
@@ -100,28 +101,25 @@ pub fn part_read(answer: Result<PartRead, Refusal>) -> PartAnswer
 fn part_done(written: usize, reading: Reading, concatenation: Option<Numbers>) -> PartAnswer
     ensures { result ≡ part_done_answer written reading concatenation }
 {
-    let numbers = names::numbers(reading);
+    let alone = PartAnswer {
+        refusal: 0,
+        numbered: 0,
+        reference: 0,
+        total: 0,
+        number: 0,
+        position: 0,
+        written,
+        reading: names::numbers(reading),
+    };
     match concatenation {
         Some(part) => PartAnswer {
-            refusal: 0,
             numbered: 1,
             reference: part.reference,
             total: part.total,
             number: part.number,
-            position: 0,
-            written: written,
-            reading: numbers,
+            ..alone
         },
-        None => PartAnswer {
-            refusal: 0,
-            numbered: 0,
-            reference: 0,
-            total: 0,
-            number: 0,
-            position: 0,
-            written: written,
-            reading: numbers,
-        },
+        None => alone,
     }
 }
 
@@ -130,7 +128,6 @@ pub fn part_refused(refusal: Refusal) -> PartAnswer
     ensures answer { result ≡ part_refused_answer refusal }
 {
     let plain = answers::refused(refusal);
-    let numbers = names::numbers(Reading::plain());
     PartAnswer {
         refusal: plain.refusal,
         numbered: 0,
@@ -139,7 +136,7 @@ pub fn part_refused(refusal: Refusal) -> PartAnswer
         number: 0,
         position: plain.position,
         written: 0,
-        reading: numbers,
+        reading: names::numbers(Reading::plain()),
     }
 }
 
@@ -147,14 +144,13 @@ pub fn part_refused(refusal: Refusal) -> PartAnswer
 pub fn join_done(parts: u32, written: usize, reference: u8, reading: Reading) -> PartsJoinAnswer
     ensures answer { result ≡ parts_join_done_answer parts written reference reading }
 {
-    let numbers = names::numbers(reading);
     PartsJoinAnswer {
         refusal: 0,
-        parts: parts,
+        parts,
         position: 0,
-        written: written,
-        reference: reference,
-        reading: numbers,
+        written,
+        reference,
+        reading: names::numbers(reading),
     }
 }
 
@@ -163,13 +159,12 @@ pub fn join_refused(refusal: Refusal) -> PartsJoinAnswer
     ensures answer { result ≡ parts_join_refused_answer refusal }
 {
     let plain = answers::refused(refusal);
-    let numbers = names::numbers(Reading::plain());
     PartsJoinAnswer {
         refusal: plain.refusal,
         parts: 0,
         position: plain.position,
         written: 0,
         reference: 0,
-        reading: numbers,
+        reading: names::numbers(Reading::plain()),
     }
 }

@@ -17,7 +17,6 @@ use Rattle.metered.specs.declared.Keyed.{Keyed}
 use Rattle.metered.specs.Metered.{Key, add, back, clear, key_rules, refused_key, keyed}
 use Rattle.wikuay.specs.declared.meters.MeterNumbers.{MeterNumbers}
 use Rattle.wikuay.specs.declared.meters.MeterAnswer.{MeterAnswer}
-use Rattle.wikuay.specs.declared.meters.NamedMeter.TheVariants.{Named, Unnamed}
 use Rattle.wikuay.specs.MeterCalls.{shown_for, unnamed_meter, under, new_meter_gives, room_left_gives, unit_added_gives, unit_taken_back_gives, meter_cleared_gives}
 use Rattle.wikuay.specs.Refusing.{Judged}
 use Rattle.wikuay.proofs.Refusing.{VerdictAmong, verdict-among}
@@ -32,7 +31,7 @@ refused_meter m q = record { refusal = number_of q; position = position_of q; le
 
 -- what the calls say of the record under the service that is named, or under none
 abbrev under_named : MeterNumbers → Option Service → (Meter → Keyed) → MeterAnswer
-under_named m v give = under (under_service v Unnamed (λ s. Named (record { service = s; used = m.used }))) (unnamed_meter m) (λ x. shown_for m.service (give x))
+under_named m v give = under (under_service v None (λ s. Some (record { service = s; used = m.used }))) (unnamed_meter m) (λ x. shown_for m.service (give x))
 
 abbrev as-kept : Meter → Keyed
 as-kept x = record { meter = x; answer = (Ok tt) }

@@ -114,7 +114,7 @@ pub wikuay-holds-text-refuses : (x : ReadingNumbers) → Judged read_number read
 unfolding holds_text_gives holds_text text_rules
 wikuay-holds-text-refuses x = of-reading (named_reading x)
   where
-    held-number : (b : Bool) → (held_answer (cond b (Ok held.Units) (Ok held.Septets))).refusal ≡ 0
+    held-number : (b : Bool) → (held_answer (Ok (cond b held.Units held.Septets))).refusal ≡ 0
     held-number true = refl
     held-number false = refl
 

@@ -69,15 +69,15 @@ gives-coded n x s named us out = simp named (go (named_reading x))
 
 -- ---- reading
 
-abbrev pub read_by : Service → ℕ → List ℕ → ℕ → Heard → MessageTold
-read_by s count o room (heard.Text ucs2 x) = shown_told x (text_reads s ucs2 count o room)
-read_by s count o room (heard.Lettered ucs2) = lettered_told ucs2 (lettered_reads ucs2 count o room)
-read_by s count o room (heard.Refused q) = refused_told q
+abbrev pub read_by : Service → ℕ → List ℕ → ℕ → Result Heard Refusal → MessageTold
+read_by s count o room (Ok (heard.Text ucs2 x)) = shown_told x (text_reads s ucs2 count o room)
+read_by s count o room (Ok (heard.Lettered ucs2)) = lettered_told ucs2 (lettered_reads ucs2 count o room)
+read_by s count o room (Err q) = refused_told q
 
-abbrev pub kept_by : Service → ℕ → List ℕ → List ℕ → Heard → List ℕ
-kept_by s count o out (heard.Text ucs2 x) = text_read_leaves s ucs2 count o out
-kept_by s count o out (heard.Lettered ucs2) = lettered_read_leaves ucs2 count o out
-kept_by s count o out (heard.Refused q) = out
+abbrev pub kept_by : Service → ℕ → List ℕ → List ℕ → Result Heard Refusal → List ℕ
+kept_by s count o out (Ok (heard.Text ucs2 x)) = text_read_leaves s ucs2 count o out
+kept_by s count o out (Ok (heard.Lettered ucs2)) = lettered_read_leaves ucs2 count o out
+kept_by s count o out (Err q) = out
 
 -- a septet is an octet
 octet : {n : ℕ} → n < 128 → n < 256
@@ -128,8 +128,8 @@ heard-reads s coding count o out h = go (octet_reads s coding) refl
         (told-refused q ∙ ap message_read_answer t.0, t.1)
 
     of-reading : (r : Reading) → Ok r ≡ octet_reads s coding → (b : Bool) → is_lettered s r ≡ b
-        → (told_answer (read_by s count o (length out) (cond b (heard.Lettered (is_ucs2 r.alphabet)) (held_by (holds_text s r) r))) ≡ message_read_answer (read_answers s coding count o (length out)))
-        × (kept_by s count o out (cond b (heard.Lettered (is_ucs2 r.alphabet)) (held_by (holds_text s r) r)) ≡ read_leaves s coding count o out)
+        → (told_answer (read_by s count o (length out) (cond b (Ok (heard.Lettered (is_ucs2 r.alphabet))) (held_by (holds_text s r) r))) ≡ message_read_answer (read_answers s coding count o (length out)))
+        × (kept_by s count o out (cond b (Ok (heard.Lettered (is_ucs2 r.alphabet))) (held_by (holds_text s r) r)) ≡ read_leaves s coding count o out)
     of-reading r e true l =
         let ucs2 : Bool = is_ucs2 r.alphabet in
         let t = lettered-reads s coding count o out r h e l in (
@@ -147,12 +147,12 @@ heard-reads s coding count o out h = go (octet_reads s coding) refl
         let t = read-refused s coding count o q out e in
         (told-refused q ∙ ap message_read_answer t.0, t.1)
 
-pub gives-heard : (n : ℕ) (s : Service) → named_service n ≡ Some s → (coding count : ℕ) (o out : List ℕ) → coding < 256 → (a : Heard) → a ≡ heard_by s (octet_reads s coding)
+pub gives-heard : (n : ℕ) (s : Service) → named_service n ≡ Some s → (coding count : ℕ) (o out : List ℕ) → coding < 256 → (a : Result Heard Refusal) → a ≡ heard_by s (octet_reads s coding)
     → (told_answer (read_by s count o (length out) a) ≡ read_message_gives n coding count o (length out)) × (kept_by s count o out a ≡ read_message_keeps n coding count o out)
 unfolding read_message_gives read_message_keeps
 gives-heard n s named coding count o out h a e =
     let w = heard-reads s coding count o out h in
-    simp named (ap (λ (x : Heard). told_answer (read_by s count o (length out) x)) e ∙ w.0, ap (kept_by s count o out) e ∙ w.1)
+    simp named (ap (λ (x : Result Heard Refusal). told_answer (read_by s count o (length out) x)) e ∙ w.0, ap (kept_by s count o out) e ∙ w.1)
 
 -- a number that names no service is refused 8
 pub gives-unnamed : (n coding count : ℕ) (o out : List ℕ) → named_service n ≡ None

@@ -6,15 +6,13 @@
 --   named_meter m      == the record that the numbers m name, if their service is one
 --   under n none give  == what give says of a record that is named, or none
 --   under_meter m give == a call: what give says of the record that is named, in numbers, or that refusal
-use Rattle.std.specs.Prelude.{ℕ, pos, Ok}
+use Rattle.std.specs.Prelude.{ℕ, pos, Option, Some, None, Ok}
 use Rattle.words.specs.declared.Refusal.TheVariants.{Unwritable}
 use Rattle.words.specs.Refusals.{number_of, position_of}
 use Rattle.words.specs.Services.{named_service, under_service}
 use Rattle.metered.specs.declared.Meter.{Meter}
 use Rattle.metered.specs.declared.Keyed.{Keyed}
 use Rattle.metered.specs.Metered.{add, back, clear, remains, keyed, pressed_number, pressed_position}
-use Rattle.wikuay.specs.declared.meters.NamedMeter.{NamedMeter}
-use Rattle.wikuay.specs.declared.meters.NamedMeter.TheVariants.{Named, Unnamed}
 use Rattle.wikuay.specs.declared.meters.MeterNumbers.{MeterNumbers}
 use Rattle.wikuay.specs.declared.meters.MeterAnswer.{MeterAnswer}
 
@@ -30,12 +28,12 @@ shown_for n x =
 abbrev pub unnamed_meter : MeterNumbers → MeterAnswer
 unnamed_meter m = record { refusal = number_of Unwritable; position = position_of Unwritable; left = pos 0; meter = m }
 
-abbrev pub named_meter : MeterNumbers → NamedMeter
-named_meter m = under_service (named_service m.service) Unnamed (λ s. Named (record { service = s; used = m.used }))
+abbrev pub named_meter : MeterNumbers → Option Meter
+named_meter m = under_service (named_service m.service) None (λ s. Some (record { service = s; used = m.used }))
 
-abbrev pub under : NamedMeter → MeterAnswer → (Meter → MeterAnswer) → MeterAnswer
-under (Named x) none give = give x
-under Unnamed none give = none
+abbrev pub under : Option Meter → MeterAnswer → (Meter → MeterAnswer) → MeterAnswer
+under (Some x) none give = give x
+under None none give = none
 
 abbrev pub under_meter : MeterNumbers → (Meter → Keyed) → MeterAnswer
 under_meter m give = under (named_meter m) (unnamed_meter m) (λ x. shown_for m.service (give x))

@@ -23,10 +23,10 @@ pub fn wikuay_read_header(block: Block) -> BlockHeader
 pub fn wikuay_count_pages(reading: ReadingNumbers, text: &[u16]) -> PagesAnswer
     ensures answer { result ≡ count_pages_gives reading text.now }
 {
-    match names::reading(reading) {
-        Some(reading) => counted(paging::count_pages(reading, text)),
-        None => page_answers::pages_refused(Refusal::Unwritable),
-    }
+    let Some(reading) = names::reading(reading) else {
+        return page_answers::pages_refused(Refusal::Unwritable);
+    };
+    counted(paging::count_pages(reading, text))
 }
 
 // Builds one page of a text, counted from 1. Refuses 8, 1, 2, 3, 6, 5, 10; a refused block is all zero.
@@ -39,13 +39,10 @@ pub fn wikuay_build_page(
 ) -> PageAnswer
     ensures answer { result ≡ build_page_gives sequence identifier reading text.now number }
 {
-    match names::reading(reading) {
-        Some(reading) => built(paging::build_page(sequence, identifier, reading, text, number)),
-        None => page_answers::page(
-            page_answers::pages_refused(Refusal::Unwritable),
-            [0u8; 88],
-        ),
-    }
+    let Some(reading) = names::reading(reading) else {
+        return page_answers::page(page_answers::pages_refused(Refusal::Unwritable), [0u8; 88]);
+    };
+    built(paging::build_page(sequence, identifier, reading, text, number))
 }
 
 // Writes all pages of a text end to end. Refuses 8, 1, 2, 3, 6, 5, 7, and then leaves the buffer as it came; a success touches only the
@@ -60,12 +57,10 @@ pub fn wikuay_write_pages(
     ensures answer { result ≡ write_pages_gives sequence identifier reading text.now (length out.old) }
     ensures buffer { out.new ≡ write_pages_keeps sequence identifier reading text.now out.old }
 {
-    match names::reading(reading) {
-        Some(reading) => {
-            pages_written(paging::write_pages(sequence, identifier, reading, text, out))
-        }
-        None => page_answers::pages_refused(Refusal::Unwritable),
-    }
+    let Some(reading) = names::reading(reading) else {
+        return page_answers::pages_refused(Refusal::Unwritable);
+    };
+    pages_written(paging::write_pages(sequence, identifier, reading, text, out))
 }
 
 // Joins blocks, lent end to end in any order. Refuses 4, 10, 1, 2, 3, 10, 7, and then leaves the buffer as it came; a success touches only
@@ -83,7 +78,10 @@ fn built(answer: Result<Page, Refusal>) -> PageAnswer
     ensures { result ≡ built_answer (built_of answer) }
 {
     match answer {
-        Ok(Page { block, pages }) => page_answers::page(page_answers::pages_done(pages as u32, 0), block),
+        Ok(page) => {
+            let block = page.block;
+            page_answers::page(page_answers::pages_done(page.pages as u32, 0), block)
+        }
         Err(refusal) => page_answers::page(page_answers::pages_refused(refusal), [0u8; 88]),
     }
 }
@@ -116,13 +114,15 @@ fn joined(answer: Result<Joined, Refusal>) -> JoinAnswer
     ensures { result ≡ joined_answer answer }
 {
     match answer {
-        Ok(Joined {
-            units,
-            reading,
-            sequence,
-            identifier,
-            pages,
-        }) => page_answers::join_done(pages as u32, units, sequence, identifier, reading),
+        Ok(
+            Joined {
+                units,
+                reading,
+                sequence,
+                identifier,
+                pages,
+            },
+        ) => page_answers::join_done(pages as u32, units, sequence, identifier, reading),
         Err(refusal) => page_answers::join_refused(refusal),
     }
 }

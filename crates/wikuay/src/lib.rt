@@ -31,33 +31,33 @@ pub fn wikuay_version() -> u32
 pub fn wikuay_read_coding(service: u32, coding: u8) -> ReadAnswer
     ensures answer { result ≡ read_coding_gives service coding }
 {
-    match words::named_service(service) {
-        Some(service) => answers::octet_read(coding::read_octet(service, coding)),
-        None => answers::read_refused(Refusal::Unwritable),
-    }
+    let Some(service) = words::named_service(service) else {
+        return answers::read_refused(Refusal::Unwritable);
+    };
+    answers::octet_read(coding::read_octet(service, coding))
 }
 
 // The smallest coding octet that says what the reading does. Refuses 8.
 pub fn wikuay_write_coding(service: u32, reading: ReadingNumbers) -> Answer
     ensures answer { result ≡ write_coding_gives service reading }
 {
-    match words::named_service(service) {
-        Some(service) => match names::reading(reading) {
-            Some(reading) => answers::octet_written(reading.write(service)),
-            None => answers::refused(Refusal::Unwritable),
-        },
-        None => answers::refused(Refusal::Unwritable),
-    }
+    let Some(service) = words::named_service(service) else {
+        return answers::refused(Refusal::Unwritable);
+    };
+    let Some(reading) = names::reading(reading) else {
+        return answers::refused(Refusal::Unwritable);
+    };
+    answers::octet_written(reading.write(service))
 }
 
 // Which text a reading holds. Refuses 8, 1, 2, 3.
 pub fn wikuay_holds_text(reading: ReadingNumbers) -> ReadAnswer
     ensures answer { result ≡ holds_text_gives reading }
 {
-    match names::reading(reading) {
-        Some(reading) => answers::held(reading.holds(Service::ShortMessage)),
-        None => answers::read_refused(Refusal::Unwritable),
-    }
+    let Some(reading) = names::reading(reading) else {
+        return answers::read_refused(Refusal::Unwritable);
+    };
+    answers::held(reading.holds(Service::ShortMessage))
 }
 
 // Packs septets. Refuses 8, 9, 5, 7, and then leaves the buffer as it came; a success touches only the written front.
@@ -65,10 +65,10 @@ pub fn wikuay_pack(service: u32, septets: &[u8], out: &mut [u8]) -> Answer
     ensures answer { result ≡ pack_gives service septets.now (length out.old) }
     ensures buffer { out.new ≡ pack_keeps service septets.now out.old }
 {
-    match words::named_service(service) {
-        Some(service) => packed(packing::pack(service, septets, out)),
-        None => answers::refused(Refusal::Unwritable),
-    }
+    let Some(service) = words::named_service(service) else {
+        return answers::refused(Refusal::Unwritable);
+    };
+    packed(packing::pack(service, septets, out))
 }
 
 // Unpacks octets into septets. Refuses 8, 4, 7, and then leaves the buffer as it came; a success touches only the written front.
@@ -76,12 +76,10 @@ pub fn wikuay_unpack(service: u32, octets: &[u8], count: usize, out: &mut [u8]) 
     ensures answer { result ≡ unpack_gives service octets.now count (length out.old) }
     ensures buffer { out.new ≡ unpack_keeps service octets.now count out.old }
 {
-    match words::named_service(service) {
-        Some(service) => {
-            answers::filled(packing::unpack(service, octets, count, out))
-        }
-        None => answers::refused(Refusal::Unwritable),
-    }
+    let Some(service) = words::named_service(service) else {
+        return answers::refused(Refusal::Unwritable);
+    };
+    answers::filled(packing::unpack(service, octets, count, out))
 }
 
 // Text to septets. Refuses 6, 7, and then leaves the buffer as it came; a success touches only the written front.
@@ -124,14 +122,11 @@ pub fn wikuay_write_message(
     ensures answer { result ≡ write_message_gives service reading text.now (length out.old) }
     ensures buffer { out.new ≡ write_message_keeps service reading text.now out.old }
 {
-    match words::named_service(service) {
-        Some(service) => message_written(writer::write_coded(
-            said::coded(service, reading),
-            text,
-            out,
-        )),
-        None => answers::refused(Refusal::Unwritable),
-    }
+    let Some(service) = words::named_service(service) else {
+        return answers::refused(Refusal::Unwritable);
+    };
+    let coding = said::coded(service, reading);
+    message_written(writer::write_coded(coding, text, out))
 }
 
 // The reader: what its answer tells, from which C's is made in one place.
@@ -139,19 +134,18 @@ fn read_told(service: u32, coding: u8, count: usize, octets: &[u8], out: &mut [u
     ensures result_value { told_answer result ≡ read_message_gives service coding count octets.now (length out.old) }
     ensures out_after { out.new ≡ read_message_keeps service coding count octets.now out.old }
 {
-    match words::named_service(service) {
-        Some(service) => match said::hears(service, coding) {
-            Heard::Text { ucs2, reading } => answers::shown(
-                reading,
-                reader::read_text(service, ucs2, count, octets, out),
-            ),
-            Heard::Lettered { ucs2 } => answers::lettered_shown(
-                ucs2,
-                lettering::read_lettered(ucs2, count, octets, out),
-            ),
-            Heard::Refused(refusal) => answers::message_refused(refusal),
-        },
-        None => answers::message_refused(Refusal::Unwritable),
+    let Some(service) = words::named_service(service) else {
+        return answers::message_refused(Refusal::Unwritable);
+    };
+    match said::hears(service, coding) {
+        Ok(Heard::Text { ucs2, reading }) => answers::shown(
+            reading,
+            reader::read_text(service, ucs2, count, octets, out),
+        ),
+        Ok(Heard::Lettered { ucs2 }) => {
+            answers::lettered_shown(ucs2, lettering::read_lettered(ucs2, count, octets, out))
+        }
+        Err(refusal) => answers::message_refused(refusal),
     }
 }
 
@@ -172,11 +166,13 @@ fn message_written(answer: Result<MessageWritten, Refusal>) -> Answer
     ensures { result ≡ message_written_answer answer }
 {
     match answer {
-        Ok(MessageWritten {
-            octets,
-            count,
-            coding,
-        }) => answers::done(count as u32, octets, coding),
+        Ok(
+            MessageWritten {
+                octets,
+                count,
+                coding,
+            },
+        ) => answers::done(count as u32, octets, coding),
         Err(refusal) => answers::refused(refusal),
     }
 }

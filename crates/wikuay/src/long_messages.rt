@@ -32,10 +32,10 @@ pub fn wikuay_read_part(
 pub fn wikuay_count_parts(reading: ReadingNumbers, text: &[u16]) -> PartsAnswer
     ensures answer { result ≡ count_parts_gives reading text.now }
 {
-    match names::reading(reading) {
-        Some(reading) => counted(parts::count_parts(reading, text)),
-        None => part_answers::parts_refused(Refusal::Unwritable),
-    }
+    let Some(reading) = names::reading(reading) else {
+        return part_answers::parts_refused(Refusal::Unwritable);
+    };
+    counted(parts::count_parts(reading, text))
 }
 
 // Writes one part of a text, counted from 1. Refuses 8, 1, 2, 6, 5, 10, 7, and then leaves the buffer as it came; a success touches only the written front.
@@ -49,12 +49,10 @@ pub fn wikuay_write_part(
     ensures answer { result ≡ write_part_gives reading reference text.now number (length out.old) }
     ensures buffer { out.new ≡ write_part_keeps reading reference text.now number out.old }
 {
-    match names::reading(reading) {
-        Some(reading) => {
-            part_written(parts::write_part(reading, reference, text, number, out))
-        }
-        None => part_answers::parts_refused(Refusal::Unwritable),
-    }
+    let Some(reading) = names::reading(reading) else {
+        return part_answers::parts_refused(Refusal::Unwritable);
+    };
+    part_written(parts::write_part(reading, reference, text, number, out))
 }
 
 // Writes all parts of a text end to end, and for each its count and its length in octets. Refuses 8, 1, 2, 6, 5, 7, and then leaves both buffers as they
@@ -70,12 +68,10 @@ pub fn wikuay_write_parts(
     ensures buffer { out.new ≡ write_parts_keeps reading reference text.now (length sizes.old) out.old }
     ensures sizes { sizes.new ≡ write_parts_lists reading reference text.now (length out.old) sizes.old }
 {
-    match names::reading(reading) {
-        Some(reading) => {
-            parts_written(parts::write_parts(reading, reference, text, out, sizes))
-        }
-        None => part_answers::parts_refused(Refusal::Unwritable),
-    }
+    let Some(reading) = names::reading(reading) else {
+        return part_answers::parts_refused(Refusal::Unwritable);
+    };
+    parts_written(parts::write_parts(reading, reference, text, out, sizes))
 }
 
 // Joins parts, lent end to end in any order beside their counts. Refuses 1, 2, 4, 12, 4, 10, 7, and then leaves the buffer as it came; a success touches
@@ -109,13 +105,15 @@ fn part_written(answer: Result<PartWritten, Refusal>) -> PartsAnswer
     ensures { result ≡ part_written_answer answer }
 {
     match answer {
-        Ok(PartWritten {
-            octets,
-            count,
-            marked,
-            coding,
-            parts,
-        }) => part_answers::parts_done(parts as u32, octets, count as u32, coding, marked),
+        Ok(
+            PartWritten {
+                octets,
+                count,
+                marked,
+                coding,
+                parts,
+            },
+        ) => part_answers::parts_done(parts as u32, octets, count as u32, coding, marked),
         Err(refusal) => part_answers::parts_refused(refusal),
     }
 }
@@ -126,12 +124,14 @@ fn parts_written(answer: Result<PartsWritten, Refusal>) -> PartsAnswer
     ensures { result ≡ parts_written_answer answer }
 {
     match answer {
-        Ok(PartsWritten {
-            octets,
-            marked,
-            coding,
-            parts,
-        }) => part_answers::parts_done(parts as u32, octets, 0, coding, marked),
+        Ok(
+            PartsWritten {
+                octets,
+                marked,
+                coding,
+                parts,
+            },
+        ) => part_answers::parts_done(parts as u32, octets, 0, coding, marked),
         Err(refusal) => part_answers::parts_refused(refusal),
     }
 }
@@ -142,12 +142,14 @@ fn joined(answer: Result<PartsJoined, Refusal>) -> PartsJoinAnswer
     ensures { result ≡ parts_joined_answer answer }
 {
     match answer {
-        Ok(PartsJoined {
-            units,
-            reading,
-            reference,
-            parts,
-        }) => part_answers::join_done(parts as u32, units, reference, reading),
+        Ok(
+            PartsJoined {
+                units,
+                reading,
+                reference,
+                parts,
+            },
+        ) => part_answers::join_done(parts as u32, units, reference, reading),
         Err(refusal) => part_answers::join_refused(refusal),
     }
 }

@@ -24,113 +24,83 @@ pub struct MeterAnswer {
     pub meter: MeterNumbers,
 }
 
-// What the numbers of a record name.
-#[derive(Clone, Copy)]
-enum NamedMeter {
-    Named(Meter),
-    Unnamed,
-}
-
 // A meter for a service, with nothing typed. Refuses 8.
 pub fn wikuay_new_meter(service: u32) -> MeterAnswer
     ensures answer { result ≡ new_meter_gives service }
 {
-    let meter = MeterNumbers {
-        service: service,
-        used: 0,
-    };
-    wikuay_room_left(meter)
+    wikuay_room_left(MeterNumbers { service, used: 0 })
 }
 
 // The number that a record shows. Refuses 8.
 pub fn wikuay_room_left(meter: MeterNumbers) -> MeterAnswer
     ensures answer { result ≡ room_left_gives meter }
 {
-    match named(meter) {
-        NamedMeter::Named(known) => {
-            let kept = Keyed {
-                meter: known,
-                answer: Ok(()),
-            };
-            shown(meter.service, kept)
-        }
-        NamedMeter::Unnamed => unnamed(meter),
-    }
+    let Some(known) = named(meter) else {
+        return unnamed(meter);
+    };
+    let kept = Keyed {
+        meter: known,
+        answer: Ok(()),
+    };
+    shown(meter.service, kept)
 }
 
 // A unit is typed. Refuses 8, 6, 5, and then leaves the record as it was.
 pub fn wikuay_unit_added(meter: MeterNumbers, unit: u16) -> MeterAnswer
     ensures answer { result ≡ unit_added_gives meter unit }
 {
-    match named(meter) {
-        NamedMeter::Named(known) => shown(meter.service, meter::added(known, unit)),
-        NamedMeter::Unnamed => unnamed(meter),
-    }
+    let Some(known) = named(meter) else {
+        return unnamed(meter);
+    };
+    shown(meter.service, meter::added(known, unit))
 }
 
 // A unit is taken back. Refuses 8, 6, 5, and then leaves the record as it was.
 pub fn wikuay_unit_taken_back(meter: MeterNumbers, unit: u16) -> MeterAnswer
     ensures answer { result ≡ unit_taken_back_gives meter unit }
 {
-    match named(meter) {
-        NamedMeter::Named(known) => shown(meter.service, meter::taken_back(known, unit)),
-        NamedMeter::Unnamed => unnamed(meter),
-    }
+    let Some(known) = named(meter) else {
+        return unnamed(meter);
+    };
+    shown(meter.service, meter::taken_back(known, unit))
 }
 
 // The whole text is taken back. Refuses 8.
 pub fn wikuay_meter_cleared(meter: MeterNumbers) -> MeterAnswer
     ensures answer { result ≡ meter_cleared_gives meter }
 {
-    match named(meter) {
-        NamedMeter::Named(known) => shown(meter.service, meter::cleared(known)),
-        NamedMeter::Unnamed => unnamed(meter),
-    }
+    let Some(known) = named(meter) else {
+        return unnamed(meter);
+    };
+    shown(meter.service, meter::cleared(known))
 }
 
 // The record that the numbers name, if their service is one.
-fn named(meter: MeterNumbers) -> NamedMeter
+fn named(meter: MeterNumbers) -> Option<Meter>
     ensures { result ≡ named_meter meter }
 {
-    match words::named_service(meter.service) {
-        Some(service) => {
-            let known = Meter {
-                service: service,
-                used: meter.used,
-            };
-            NamedMeter::Named(known)
-        }
-        None => NamedMeter::Unnamed,
-    }
+    Some(Meter {
+        service: words::named_service(meter.service)?,
+        used: meter.used,
+    })
 }
 
 // The answer of a key in numbers, where the service has this one.
 fn shown(service: u32, key: Keyed) -> MeterAnswer
     ensures { result ≡ shown_for service key }
 {
-    let after = key.meter;
-    let left = meter::left(after);
-    let numbers = MeterNumbers {
-        service: service,
-        used: after.used,
+    let answer = match key.answer {
+        Ok(()) => answers::done(0, 0, 0),
+        Err(refusal) => answers::refused(refusal),
     };
-    let answer = key.answer;
-    match answer {
-        Ok(()) => MeterAnswer {
-            refusal: 0,
-            position: 0,
-            left: left,
-            meter: numbers,
+    MeterAnswer {
+        refusal: answer.refusal,
+        position: answer.position,
+        left: meter::left(key.meter),
+        meter: MeterNumbers {
+            service,
+            used: key.meter.used,
         },
-        Err(refusal) => {
-            let plain = answers::refused(refusal);
-            MeterAnswer {
-                refusal: plain.refusal,
-                position: plain.position,
-                left: left,
-                meter: numbers,
-            }
-        }
     }
 }
 
@@ -143,6 +113,6 @@ fn unnamed(meter: MeterNumbers) -> MeterAnswer
         refusal: plain.refusal,
         position: plain.position,
         left: 0,
-        meter: meter,
+        meter,
     }
 }

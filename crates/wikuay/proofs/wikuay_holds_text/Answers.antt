@@ -3,10 +3,10 @@ use Rattle.wikuay.specs.Calls.{holds_text_gives}
 use mathlib.Core.Path.{sym, ◌∙◌}
 use Rattle.wikuay.proofs.wikuay_holds_text.Goals as goal
 
-pub returns-in-Some : goal.returns-in-Some
+pub returns : goal.returns
 unfolding holds_text_gives
-returns-in-Some c = record { answer = simp (c.held.ensures.answer, c.holds.ensures.answer, sym c.reading.ensures.answer ∙ c.in-Some.is) }
+returns c = record { answer = simp (c.held.ensures.answer, c.holds.ensures.answer, sym c.in-Some.ensures.answer) }
 
-pub returns-in-None : goal.returns-in-None
+pub returns-in_default : goal.returns-in_default
 unfolding holds_text_gives
-returns-in-None c = record { answer = simp (c.read_refused.ensures.answer, sym c.reading.ensures.answer ∙ c.in-None.is) }
+returns-in_default c = record { answer = simp (c.read_refused.ensures.answer, sym c.in_default.ensures.answer) }

@@ -12,12 +12,12 @@ use Rattle.words.specs.declared.Refusal.{Refusal}
 pub packed-requires : goal.packed-requires
 packed-requires c = subst (λ (a : Result Packed Refusal). packed_count a ≤ 160) (sym c.pack.ensures.answer) (pack-count _ _ _)
 
-pub returns-in-Some : goal.returns-in-Some
+pub returns : goal.returns
 unfolding pack_gives pack_keeps
-returns-in-Some c =
-    record { answer = simp (c.packed.ensures, c.pack.ensures.answer, sym c.named_service.ensures.answer ∙ c.in-Some.is); buffer = simp (c.pack.ensures.buffer, sym c.named_service.ensures.answer ∙ c.in-Some.is) }
+returns c =
+    record { answer = simp (c.packed.ensures, c.pack.ensures.answer, sym c.in-Some.ensures.answer); buffer = simp (c.pack.ensures.buffer, sym c.in-Some.ensures.answer) }
 
-pub returns-in-None : goal.returns-in-None
+pub returns-in_default : goal.returns-in_default
 unfolding pack_gives pack_keeps
-returns-in-None c =
-    record { answer = simp (c.refused.ensures.answer, sym c.named_service.ensures.answer ∙ c.in-None.is); buffer = simp (sym c.named_service.ensures.answer ∙ c.in-None.is) }
+returns-in_default c =
+    record { answer = simp (c.refused.ensures.answer, sym c.in_default.ensures.answer); buffer = simp (sym c.in_default.ensures.answer) }

@@ -3,10 +3,10 @@ use Rattle.wikuay.specs.Calls.{read_coding_gives}
 use mathlib.Core.Path.{sym, ◌∙◌}
 use Rattle.wikuay.proofs.wikuay_read_coding.Goals as goal
 
-pub returns-in-Some : goal.returns-in-Some
+pub returns : goal.returns
 unfolding read_coding_gives
-returns-in-Some c = record { answer = simp (c.octet_read.ensures.answer, c.read_octet.ensures.answer, sym c.named_service.ensures.answer ∙ c.in-Some.is) }
+returns c = record { answer = simp (c.octet_read.ensures.answer, c.read_octet.ensures.answer, sym c.in-Some.ensures.answer) }
 
-pub returns-in-None : goal.returns-in-None
+pub returns-in_default : goal.returns-in_default
 unfolding read_coding_gives
-returns-in-None c = record { answer = simp (c.read_refused.ensures.answer, sym c.named_service.ensures.answer ∙ c.in-None.is) }
+returns-in_default c = record { answer = simp (c.read_refused.ensures.answer, sym c.in_default.ensures.answer) }

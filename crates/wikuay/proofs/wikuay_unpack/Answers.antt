@@ -3,12 +3,12 @@ use Rattle.wikuay.specs.Calls.{unpack_gives, unpack_keeps}
 use mathlib.Core.Path.{sym, ◌∙◌}
 use Rattle.wikuay.proofs.wikuay_unpack.Goals as goal
 
-pub returns-in-Some : goal.returns-in-Some
+pub returns : goal.returns
 unfolding unpack_gives unpack_keeps
-returns-in-Some c =
-    record { answer = simp (c.filled.ensures.answer, c.unpack.ensures.answer, sym c.named_service.ensures.answer ∙ c.in-Some.is); buffer = simp (c.unpack.ensures.buffer, sym c.named_service.ensures.answer ∙ c.in-Some.is) }
+returns c =
+    record { answer = simp (c.filled.ensures.answer, c.unpack.ensures.answer, sym c.in-Some.ensures.answer); buffer = simp (c.unpack.ensures.buffer, sym c.in-Some.ensures.answer) }
 
-pub returns-in-None : goal.returns-in-None
+pub returns-in_default : goal.returns-in_default
 unfolding unpack_gives unpack_keeps
-returns-in-None c =
-    record { answer = simp (c.refused.ensures.answer, sym c.named_service.ensures.answer ∙ c.in-None.is); buffer = simp (sym c.named_service.ensures.answer ∙ c.in-None.is) }
+returns-in_default c =
+    record { answer = simp (c.refused.ensures.answer, sym c.in_default.ensures.answer); buffer = simp (sym c.in_default.ensures.answer) }

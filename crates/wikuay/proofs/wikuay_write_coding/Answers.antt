@@ -3,14 +3,14 @@ use Rattle.wikuay.specs.Calls.{write_coding_gives}
 use mathlib.Core.Path.{sym, ◌∙◌}
 use Rattle.wikuay.proofs.wikuay_write_coding.Goals as goal
 
-pub returns-in-Some-reading : goal.returns-in-Some-reading
+pub returns : goal.returns
 unfolding write_coding_gives
-returns-in-Some-reading c = record { answer = simp (c.octet_written.ensures.answer, c.write.ensures.answer, sym c.reading.ensures.answer ∙ c.in-Some-reading.is, sym c.named_service.ensures.answer ∙ c.in-Some.is) }
+returns c = record { answer = simp (c.octet_written.ensures.answer, c.write.ensures.answer, sym c.in-Some-reading.ensures.answer, sym c.in-Some.ensures.answer) }
 
-pub returns-in-None-reading : goal.returns-in-None-reading
+pub returns-in_default-reading : goal.returns-in_default-reading
 unfolding write_coding_gives
-returns-in-None-reading c = record { answer = simp (c.refused.ensures.answer, sym c.reading.ensures.answer ∙ c.in-None-reading.is, sym c.named_service.ensures.answer ∙ c.in-Some.is) }
+returns-in_default-reading c = record { answer = simp (c.refused-in_default-reading.ensures.answer, sym c.in_default-reading.ensures.answer, sym c.in-Some.ensures.answer) }
 
-pub returns-in-None : goal.returns-in-None
+pub returns-in_default : goal.returns-in_default
 unfolding write_coding_gives
-returns-in-None c = record { answer = simp (c.refused-in-None.ensures.answer, sym c.named_service.ensures.answer ∙ c.in-None.is) }
+returns-in_default c = record { answer = simp (c.refused.ensures.answer, sym c.in_default.ensures.answer) }

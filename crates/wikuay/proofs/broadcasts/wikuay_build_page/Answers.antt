@@ -11,16 +11,16 @@ use Rattle.wikuay.proofs.broadcasts.wikuay_build_page.Goals as goal
 pub built-requires : goal.built-requires
 built-requires c = subst (λ (b : Built). counted_pages b.answer ≤ 15) (sym (built-of _ _ _ _ _ _ c.build_page.ensures.answer)) (built-within _ _ _ _ _)
 
-pub returns-in-Some : goal.returns-in-Some
+pub returns : goal.returns
 unfolding build_page_gives
-returns-in-Some c = record {
-  answer = let n = sym c.reading.ensures.answer ∙ c.in-Some.is in
+returns c = record {
+  answer = let n = sym c.in-Some.ensures.answer in
       c.built.ensures ∙ simp (built-of _ _ _ _ _ _ c.build_page.ensures.answer, n);
 }
 
-pub returns-in-None : goal.returns-in-None
+pub returns-in_default : goal.returns-in_default
 unfolding build_page_gives
-returns-in-None c = record {
-  answer = let n = sym c.reading.ensures.answer ∙ c.in-None.is in
-      simp (c.page-in-None.ensures.answer, c.pages_refused.ensures.answer, n);
+returns-in_default c = record {
+  answer = let n = sym c.in_default.ensures.answer in
+      simp (c.page.ensures.answer, c.pages_refused.ensures.answer, n);
 }

@@ -12,12 +12,12 @@ use Rattle.words.specs.declared.Refusal.{Refusal}
 pub pages_written-requires : goal.pages_written-requires
 pages_written-requires c = subst (λ (a : Result PagesWritten Refusal). pages_pages a ≤ 15) (sym c.write_pages.ensures.answer) (pages-within _ _ _ _ _)
 
-pub returns-in-Some : goal.returns-in-Some
+pub returns : goal.returns
 unfolding write_pages_gives write_pages_keeps
-returns-in-Some c = let n = sym c.reading.ensures.answer ∙ c.in-Some.is in
+returns c = let n = sym c.in-Some.ensures.answer in
     record { answer = simp (c.pages_written.ensures, c.write_pages.ensures.answer, n); buffer = simp (c.write_pages.ensures.buffer, n) }
 
-pub returns-in-None : goal.returns-in-None
+pub returns-in_default : goal.returns-in_default
 unfolding write_pages_gives write_pages_keeps
-returns-in-None c = let n = sym c.reading.ensures.answer ∙ c.in-None.is in
+returns-in_default c = let n = sym c.in_default.ensures.answer in
     record { answer = simp (c.pages_refused.ensures.answer, n); buffer = simp n }

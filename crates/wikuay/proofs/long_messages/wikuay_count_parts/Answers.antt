@@ -11,13 +11,13 @@ use Rattle.words.specs.declared.Refusal.{Refusal}
 pub counted-requires : goal.counted-requires
 counted-requires c = subst (λ (a : Result ℕ Refusal). counted_parts a ≤ 255) (sym c.count_parts.ensures.answer) (counted-within _ _)
 
-pub returns-in-Some : goal.returns-in-Some
+pub returns : goal.returns
 unfolding count_parts_gives
-returns-in-Some c = record {
-  answer = let n = sym c.reading.ensures.answer ∙ c.in-Some.is in
+returns c = record {
+  answer = let n = sym c.in-Some.ensures.answer in
       simp (c.counted.ensures, c.count_parts.ensures.answer, n);
 }
 
-pub returns-in-None : goal.returns-in-None
+pub returns-in_default : goal.returns-in_default
 unfolding count_parts_gives
-returns-in-None c = record { answer = simp (c.parts_refused.ensures.answer, sym c.reading.ensures.answer ∙ c.in-None.is) }
+returns-in_default c = record { answer = simp (c.parts_refused.ensures.answer, sym c.in_default.ensures.answer) }

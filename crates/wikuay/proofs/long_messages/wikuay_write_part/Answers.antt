@@ -12,12 +12,12 @@ use Rattle.words.specs.declared.Refusal.{Refusal}
 pub part_written-requires : goal.part_written-requires
 part_written-requires c = subst (λ (a : Result PartWritten Refusal). (part_parts a ≤ 255) × (part_travels a ≤ 160)) (sym c.write_part.ensures.answer) (written-within _ _ _ _ _, count-within _ _ _ _ _)
 
-pub returns-in-Some : goal.returns-in-Some
+pub returns : goal.returns
 unfolding write_part_gives write_part_keeps
-returns-in-Some c = let n = sym c.reading.ensures.answer ∙ c.in-Some.is in
+returns c = let n = sym c.in-Some.ensures.answer in
     record { answer = simp (c.part_written.ensures, c.write_part.ensures.answer, n); buffer = simp (c.write_part.ensures.buffer, n) }
 
-pub returns-in-None : goal.returns-in-None
+pub returns-in_default : goal.returns-in_default
 unfolding write_part_gives write_part_keeps
-returns-in-None c = let n = sym c.reading.ensures.answer ∙ c.in-None.is in
+returns-in_default c = let n = sym c.in_default.ensures.answer in
     record { answer = simp (c.parts_refused.ensures.answer, n); buffer = simp n }

@@ -12,18 +12,18 @@ use Rattle.words.specs.declared.Refusal.{Refusal}
 pub parts_written-requires : goal.parts_written-requires
 parts_written-requires c = subst (λ (a : Result PartsWritten Refusal). parts_parts a ≤ 255) (sym c.write_parts.ensures.answer) (parts_within _ _ _ _ _)
 
-pub returns-in-Some : goal.returns-in-Some
+pub returns : goal.returns
 unfolding write_parts_gives write_parts_keeps write_parts_lists
-returns-in-Some c =
-    let n = sym c.reading.ensures.answer ∙ c.in-Some.is in
+returns c =
+    let n = sym c.in-Some.ensures.answer in
     record {
       answer = simp (c.parts_written.ensures, c.write_parts.ensures.answer, n);
       buffer = simp (c.write_parts.ensures.buffer, n);
       sizes = simp (c.write_parts.ensures.sizes, n);
     }
 
-pub returns-in-None : goal.returns-in-None
+pub returns-in_default : goal.returns-in_default
 unfolding write_parts_gives write_parts_keeps write_parts_lists
-returns-in-None c =
-    let n = sym c.reading.ensures.answer ∙ c.in-None.is in
+returns-in_default c =
+    let n = sym c.in_default.ensures.answer in
     record { answer = simp (c.parts_refused.ensures.answer, n); buffer = simp n; sizes = simp n }

@@ -3,10 +3,10 @@ use mathlib.Core.Path.{sym, ◌∙◌}
 use Rattle.wikuay.specs.MeterCalls.{meter_cleared_gives}
 use Rattle.wikuay.proofs.meters.wikuay_meter_cleared.Goals as goal
 
-pub returns-in-Some : goal.returns-in-Some
+pub returns : goal.returns
 unfolding meter_cleared_gives
-returns-in-Some c = record { answer = simp (c.shown.ensures, c.cleared.ensures.answer, sym c.named.ensures ∙ c.in-Some.is) }
+returns c = record { answer = simp (c.shown.ensures, c.cleared.ensures.answer, sym c.in-Some.ensures) }
 
-pub returns-in-None : goal.returns-in-None
+pub returns-in_default : goal.returns-in_default
 unfolding meter_cleared_gives
-returns-in-None c = record { answer = simp (c.unnamed.ensures, sym c.named.ensures ∙ c.in-None.is) }
+returns-in_default c = record { answer = simp (c.unnamed.ensures, sym c.in_default.ensures) }

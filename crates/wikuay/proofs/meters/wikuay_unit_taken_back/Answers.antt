@@ -3,10 +3,10 @@ use mathlib.Core.Path.{sym, ◌∙◌}
 use Rattle.wikuay.specs.MeterCalls.{unit_taken_back_gives}
 use Rattle.wikuay.proofs.meters.wikuay_unit_taken_back.Goals as goal
 
-pub returns-in-Some : goal.returns-in-Some
+pub returns : goal.returns
 unfolding unit_taken_back_gives
-returns-in-Some c = record { answer = simp (c.shown.ensures, c.taken_back.ensures.answer, sym c.named.ensures ∙ c.in-Some.is) }
+returns c = record { answer = simp (c.shown.ensures, c.taken_back.ensures.answer, sym c.in-Some.ensures) }
 
-pub returns-in-None : goal.returns-in-None
+pub returns-in_default : goal.returns-in_default
 unfolding unit_taken_back_gives
-returns-in-None c = record { answer = simp (c.unnamed.ensures, sym c.named.ensures ∙ c.in-None.is) }
+returns-in_default c = record { answer = simp (c.unnamed.ensures, sym c.in_default.ensures) }
