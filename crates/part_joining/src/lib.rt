@@ -57,7 +57,7 @@ fn join_text(reading: Reading, parts: &Parts, out: &mut [u16]) -> Result<PartsJo
     ensures buffer { out.new ≡ text_join_leaves parts.now.ucs2 parts.now.counts.now parts.now.octets.now out.old }
 {
     let mut tables = Tables::new();
-    let reference = parts.order(&mut tables)?;
+    let reference = tables.order(parts)?;
     let ordered = Ordered {
         parts: *parts,
         tables: &tables,
@@ -197,7 +197,8 @@ impl<'a> Ordered<'a> {
         at
     }
 
-    // How many units the text takes: each run is read into an array of our own.
+    // How many units the text takes: each run is read into an array of our own. Its passes are those of join_septets: one function over what is done
+    // with a run has to promise both what it stores and that it stores nothing, and is longer than the two.
     fn text_length(&self) -> usize
         requires { self.now.parts.ucs2 ≡ false }
         ensures { result ≡ length (joined_text false self.now.parts.counts.now self.now.parts.octets.now) }
@@ -247,7 +248,7 @@ impl<'a> Ordered<'a> {
     }
 }
 
-// One less, or as many.
+// One less, or as many. By `one as usize` its proof has to name the prover's own number of a bool.
 fn without(n: usize, one: bool) -> usize
     requires { 1 ≤ n }
     ensures { result ≡ n - cond one 1 0 }

@@ -5,7 +5,7 @@ ghost use Rattle.std.specs.Prelude.{◌≡◌, true, false, not, ◌&&◌, ◌�
 ghost use Rattle.headed.specs.Header.{right_header, header_numbers};
 ghost use Rattle.filling.specs.Numbered.{lacks};
 ghost use Rattle.parted.specs.Joined.{octets_asked, most_count, wrong_counts, wrong_heads, odd_parts};
-ghost use Rattle.parted.specs.Ordered.{places_of, starts_of, part_order_of, places_left, starts_left};
+ghost use Rattle.parted.specs.Ordered.{no_table, places_of, starts_of, part_order_of, places_left, starts_left};
 ghost use Rattle.parted.specs.InnerJoined.{head_judged, heads_judged};
 
 use headed::Numbers;
@@ -31,38 +31,38 @@ pub struct Tables {
 impl Tables {
     // Tables of no parts.
     pub fn new() -> Self
-        ensures numbers { result.places ≡ replicate 256 0 }
-        ensures beginnings { result.starts ≡ replicate 256 0 }
+        ensures numbers { result.places ≡ no_table }
+        ensures beginnings { result.starts ≡ no_table }
     {
         Tables {
             places: [0; 256],
             starts: [0; 256],
         }
     }
-}
 
-impl<'a> Parts<'a> {
-    // Judges the parts by their counts: in two passes, one over the headers and one over their numbers. It answers the reference that they share, or by
-    // the first rule over all parts that applies why they are refused.
+    // Judges parts by their counts: in two passes, one over the headers and one over their numbers. It answers the reference that they share, or by the
+    // first rule over all parts that applies why they are refused.
     // Leaves in the tables which part has which number, and where it begins; where the parts are refused, all is 0.
-    pub fn order(&self, tables: &mut Tables) -> Result<u8, Refusal>
-        ensures answer { result ≡ part_order_of self.now.ucs2 self.now.counts.now self.now.octets.now }
-        ensures numbers { tables.new.places ≡ places_left self.now.ucs2 self.now.counts.now self.now.octets.now }
-        ensures beginnings { tables.new.starts ≡ starts_left self.now.ucs2 self.now.counts.now self.now.octets.now }
-        ensures few { IfOk result (λ _. length self.now.counts.now < 256) }
+    pub fn order(&mut self, parts: &Parts) -> Result<u8, Refusal>
+        ensures answer { result ≡ part_order_of parts.now.ucs2 parts.now.counts.now parts.now.octets.now }
+        ensures numbers { self.new.places ≡ places_left parts.now.ucs2 parts.now.counts.now parts.now.octets.now }
+        ensures beginnings { self.new.starts ≡ starts_left parts.now.ucs2 parts.now.counts.now parts.now.octets.now }
+        ensures few { IfOk result (λ _. length parts.now.counts.now < 256) }
     {
-        *tables = Tables::new();
-        if !self.counts_fit() {
+        *self = Tables::new();
+        if !parts.counts_fit() {
             return Err(Refusal::WrongLength);
         }
-        self.judge_heads()?;
-        let order = self.place(tables);
+        parts.judge_heads()?;
+        let order = parts.place(self);
         if order.is_err() {
-            *tables = Tables::new();
+            *self = Tables::new();
         }
         order
     }
+}
 
+impl<'a> Parts<'a> {
     // Whether no count is more than a short message holds, and they ask for as many octets as there are.
     fn counts_fit(&self) -> bool
         ensures { result ≡ not (wrong_counts self.now.ucs2 self.now.counts.now self.now.octets.now) }
