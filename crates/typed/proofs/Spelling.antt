@@ -86,9 +86,9 @@ for-ranged : T (every_below (λ (v : ℕ). eqb (digit_for v) (for_range v)) 16)
 unfolding digit_for numbers_from
 for-ranged = tt
 
-pub digit-for-ranged : (v : ℕ) → digit_for v ≡ for_range (v % 16)
+pub digit_for_ranged : (v : ℕ) → digit_for v ≡ for_range (v % 16)
 unfolding digit_for
-digit-for-ranged v = ap (λ (k : ℕ). get_or digits k 0) (sym (mod-mod v 16)) ∙ eqb→eq _ _ (every-below (λ (v : ℕ). eqb (digit_for v) (for_range v)) 16 for-ranged (v % 16) (omega arith))
+digit_for_ranged v = ap (λ (k : ℕ). get_or digits k 0) (sym (mod-mod v 16)) ∙ eqb→eq _ _ (every-below (λ (v : ℕ). eqb (digit_for v) (for_range v)) 16 for-ranged (v % 16) (omega arith))
 
 pub digit-is : (c d : ℕ) → digit_answers c ≡ Some d → digit_of c ≡ d
 digit-is c d e = sym (digit_or c) ∙ ap (λ (o : Option ℕ). unwrap_or o 16) e
@@ -200,6 +200,9 @@ reading-all b s v r =
     let end : other_place b s ≡ length s = passed_over (other b) s (length s) r.passed (omega arith) in
     let same : number_in b s ≡ v = ap (number_in b) (sym (take-length s)) ∙ sym r.number in
     rw (only_yes b s (omega arith), same) refl
+
+-- what each turn of such a loop asks
+pub ruleset reading_laws = (reading-none, reading-more, reading-other, reading-all, digit-is, digit-is-none, number_fits)
 
 pub spelled-yes : (b : ℕ) (s : List ℕ) → only_digits b s ≡ true → number_spelled b s ≡ Some (number_in b s)
 unfolding number_spelled

@@ -6,6 +6,7 @@ ghost use Rattle.std.proofs.Common.{lit<, lit≤};
 ghost use Rattle.typed.specs.Spelling.{digit_of, digit_answers, digit_for, other_answers, number_spelled, elements_answers, elements_leave, elements_leave_as, zero_led, number_answers};
 
 // The digit of a value, 0 to F; only its low four bits count.
+#[tactic(auto, using(crate::proofs::Spelling::digit_for_ranged))]
 pub fn digit_for(value: u8) -> u8
     ensures answer { result ≡ digit_for value }
 {
@@ -41,6 +42,7 @@ fn is_other(c: u8, base: u8) -> bool
 }
 
 // The number that digits of the base spell, where they are nothing else.
+#[tactic(auto, using(crate::proofs::Spelling::reading_laws))]
 fn number_of(digits: &[u8], base: u8) -> Option<u64>
     requires few { (length digits.now ≤ 10) × (base ≤ 16) }
     ensures answer { result ≡ number_spelled base digits.now }
