@@ -42,17 +42,13 @@ pub(crate) fn own_septets(septets: &[u8]) -> usize
     if len < 8 {
         return 0;
     }
-    let mut n = own_blocks(septets);
-    while 8 < len - n {
-        if !all_own(&septets[n..n + 8]) {
-            return n;
-        }
-        n += 8;
+    let n = own_blocks(septets);
+    let (eights, rest) = septets[n..].as_chunks::<8>();
+    match eights.iter().position(|eight| !all_own(eight)) {
+        Some(k) => n + 8 * k,
+        None if rest.is_empty() || all_own(&septets[len - 8..]) => len,
+        None => n + 8 * eights.len(),
     }
-    if !all_own(&septets[len - 8..]) {
-        return n;
-    }
-    len
 }
 
 // Lays septets over the front of the buffer as units.

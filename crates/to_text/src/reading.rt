@@ -49,7 +49,7 @@ fn next_place(septets: &[u8], old: bool, i: usize) -> usize
     j + 1
 }
 
-// The number of units that the septets read as.
+// The number of units that the septets read as. A while: a unit takes one septet or two, as next_place says, so that no for over septets counts them.
 fn units_in(septets: &[u8], old: bool) -> usize
     ensures answer { result ≡ length (read_as old septets.now) }
 {
@@ -70,7 +70,8 @@ fn is_short(septets: &[u8], old: bool, room: usize) -> bool
 }
 
 // Lays the text of the septets over the front of the buffer, and answers how many units it has. The first septets are their own units, and
-// stand in the buffer already.
+// stand in the buffer already. A while, as in units_in. Which alphabet is read stays a flag: it picks the mark and where pairs begin, once for all septets, and
+// a step that is lent in its place would be compiled twice.
 fn lay_text(septets: &[u8], old: bool, front: usize, out: &mut [u16]) -> usize
     requires front_in_bounds { (front ≤ length septets.now) × (front ≤ length out.old) × OwnFrom septets.now 0 front }
     requires out_value { take front out.old ≡ take front septets.now }
