@@ -37,7 +37,7 @@ use Rattle.demands.specs.MessageRead.{shown_septets, text_length_rules, text_rea
 use Rattle.demands.specs.MessageWritten.{text_size_rules, text_writes, text_write_leaves}
 use Rattle.demands.specs.Inner.{packed_as}
 use Rattle.demands.proofs.Steps.{write-agree, leaves-agree}
-use Rattle.std.specs.Prelude.{Result, Ok, Err}
+use Rattle.std.specs.Prelude.{Ok, Err}
 use Rattle.stream.specs.Successes.{ok_packed}
 use Rattle.demands.specs.Successes.{ok_message_written}
 
@@ -159,7 +159,7 @@ unfolding text_writes text_write_leaves text_size_rules verdict
 long-writes service units new l m coding out = simp (new, le-ltb _ _ l, lt-ltb _ _ m) (refl, refl)
 
 -- what is not gathered is refused by the writer, whatever the service's size
-pub gathered-writes : (service : Service) (units : List ℕ) → is_old_page service ≡ false → (r : Result Gathered Refusal) → r ≡ gathered_as units → (q : Refusal) → Err q ≡ r → (coding : ℕ) (out : List ℕ)
+pub gathered-writes : (service : Service) (units : List ℕ) → is_old_page service ≡ false → (r : Gathered) → r ≡ gathered_as units → (q : Refusal) → Err q ≡ r.answer → (coding : ℕ) (out : List ℕ)
     → (Err q ≡ text_writes service false coding units (length out)) × (out ≡ text_write_leaves service false units out)
 gathered-writes service units new r e q p coding out =
     ⊎_elim

@@ -202,8 +202,9 @@ fn write_septets(
     ensures answer { result ≡ text_writes service false code units.now (length out.old) }
     ensures buffer { out.new ≡ text_write_leaves service false units.now out.old }
 {
-    let gathered = to_septets::gather(units)?;
-    let packed = packing::pack_text(service, &gathered.septets, gathered.count, out)?;
+    let gathered = to_septets::gather(units);
+    let n = gathered.answer?;
+    let packed = packing::pack_text(service, &gathered.septets, n, out)?;
     Ok(MessageWritten {
         octets: packed.octets,
         count: packed.count,
