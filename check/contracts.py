@@ -3,7 +3,7 @@
 
 A public call has no `requires`. Its `ensures answer` is an equation of the result with a definition, and for each lent `&mut`
 buffer one clause is an equation of its new contents. A call that answers nothing has the clauses of its buffers alone, at least
-one. The definitions stand in specs/ of a crate, and not in an Inner file.
+one. The definitions stand in specs/ of a crate, and not in an Inner file, or are the standard library's.
 In proofs/Outcomes.antt of its crate, which Lib.antt names, a lemma states `OneAnswer` of that call's own contract, and one
 `OneBuffer` for each lent buffer: any two outcomes coincide. Of a call that borrows a struct they
 state `OneResult` and `OneRecord` of its clauses. Of a struct with a lent buffer in it, lent as `&mut self` or handed out, the clauses are
@@ -329,8 +329,9 @@ def main(rows_only):
             own = {module: text.replace(f" {library}::", " LIBRARY::") for _, module, text in sources(crate)}
             faults += [f"crates/{crate.name}: {fault}" for fault in exported(of_library, own)]
         for source, module, text in sources(crate):
+            of_std = {name for name, path in paths_of(text).items() if path.startswith("Rattle.std.specs.")}
             for name, kind, head in calls(text):
-                wants, cited, laws = judged(crate.name, module, name, kind, head, None if archive else lemmas, defined)
+                wants, cited, laws = judged(crate.name, module, name, kind, head, None if archive else lemmas, defined | of_std)
                 exports += archive
                 call = f"{kind}::{name}" if kind else name
                 quoted = [", ".join(f"`{one}`" for one in some if one) for some in (cited[:1], cited[1:], laws)]
