@@ -89,8 +89,10 @@ fn build_text(
         number: number as u8,
     };
     let content = Content::of(ucs2, &septets[..sized.septets], units);
+    let mut text = [0u8; 82];
+    content.put_page(number - 1, &mut text);
     Ok(Page {
-        block: blocks::page_block(head, content.page(number - 1)),
+        block: blocks::page_block(head, text),
         pages: sized.pages,
     })
 }
@@ -184,7 +186,9 @@ fn put_pages(head: Header, content: Content, total: usize, out: &mut [u8])
             number: (k + 1) as u8,
             ..head
         };
-        let block = blocks::page_block(numbered, content.page(k));
+        let mut text = [0u8; 82];
+        content.put_page(k, &mut text);
+        let block = blocks::page_block(numbered, text);
         out[88 * k..88 * k + 88].copy_from_slice(&block);
     }
 }
@@ -209,17 +213,18 @@ impl<'a> Content<'a> {
         }
     }
 
-    // The text of page k, counted from 0: 41 units or 93 septets, or what is left.
-    fn page(self, k: usize) -> [u8; 82]
-        requires { (k < 15) × IsLow self × (page_room (in_units self) * k ≤ length (held_in self)) }
-        ensures { result ≡ page_text (in_units self.entry) (part_at (page_room (in_units self.entry)) (held_in self.entry) (k + 1)) }
+    // Lays the text of page k, counted from 0, over 82 octets: 41 units or 93 septets, or what is left.
+    // It is laid over an array of the caller's: one that is returned the compiler takes apart, octet by octet.
+    fn put_page(self, k: usize, text: &mut [u8])
+        requires { (k < 15) × IsLow self × (page_room (in_units self) * k ≤ length (held_in self)) × (length text.old ≡ 82) }
+        ensures { text.new ≡ page_text (in_units self.entry) (part_at (page_room (in_units self.entry)) (held_in self.entry) (k + 1)) }
     {
         match self {
-            Content::Units(units) => from_units::page_octets(&units[41 * k..]),
+            Content::Units(units) => {
+                text.copy_from_slice(&from_units::page_octets(&units[41 * k..]));
+            }
             Content::Septets(septets) => {
-                let mut text = [0u8; 82];
-                let _ = packing::pack_page(closing::page_of(&septets[93 * k..]), &mut text);
-                text
+                let _ = packing::pack_page(closing::page_of(&septets[93 * k..]), text);
             }
         }
     }

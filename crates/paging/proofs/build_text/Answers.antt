@@ -37,8 +37,8 @@ returns c = let a = c.args in
     let g = c.in_ok-sized.ensures.1 in
     let u : Bool = c.ucs2-ucs2.result in
     let k : (1 ≤ a.number) × (a.number ≤ total) = (omega (arith, c.if-number-eq0.false), c.if-sized-number.false) in
-    let text : c.page.result ≡ page_text u (part_at (page_room u) (content_of u a.units.now) a.number) =
-    c.page.ensures
+    let text : c.put_page.new.text ≡ page_text u (part_at (page_room u) (content_of u a.units.now) a.number) =
+    c.put_page.ensures
     ∙ ap₂ (λ (b : Bool) (l : List ℕ). page_text b (part_at (page_room b) l (a.number - 1 + 1))) c.of-content.ensures.ucs2 (c.of-content.ensures.held ∙ g.content)
     ∙ ap (λ (n : ℕ). page_text u (part_at (page_room u) (content_of u a.units.now) n)) (omega (arith, k)) in
     let block =

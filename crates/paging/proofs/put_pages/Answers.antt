@@ -40,7 +40,7 @@ loop-k-preserved c = let h = c.args.head in
     let next : c.copy_from_slice.new.self ≡ page (1 + k) =
     c.copy_from_slice.ensures.after
     ∙ c.page_block-block.ensures.answer
-    ∙ ap (block_of (record { sequence = h.sequence; identifier = h.identifier; coding = h.coding; total = h.total; number = k + 1 })) c.page.ensures
+    ∙ ap (block_of (record { sequence = h.sequence; identifier = h.identifier; coding = h.coding; total = h.total; number = k + 1 })) c.put_page.ensures
     ∙ ap page (add_comm k 1) in
     let more : put_mid (88 * k) (88 * k + 88 - 88 * k) out c.copy_from_slice.new.self ≡ laid (b (k + 1)) lent =
     middle (88 * k) 88 out c.copy_from_slice.new.self
