@@ -203,9 +203,9 @@ struct Message<'a> {
 
 impl Message<'_> {
     // Lays part k, counted from 0, over the front of out.
-    fn put_one(self, k: u8, out: &mut [u8])
-        requires { (k < self.plan.total) × (plan_octets self.plan k ≤ length out.old) }
-        ensures { out.new ≡ laid (part_octets self.entry.plan.ucs2 self.entry.reference self.entry.plan.total (content_of self.entry.plan.ucs2 self.entry.units.now) (k + 1)) out.old }
+    fn put_one(&self, k: u8, out: &mut [u8])
+        requires { (k < self.now.plan.total) × (plan_octets self.now.plan k ≤ length out.old) }
+        ensures { out.new ≡ laid (part_octets self.now.plan.ucs2 self.now.reference self.now.plan.total (content_of self.now.plan.ucs2 self.now.units.now) (k + 1)) out.old }
     {
         let mut septets = [0u8; 184];
         let from = self.place_of(k, &mut septets);
@@ -214,10 +214,10 @@ impl Message<'_> {
 
     // Where part k begins, counted from 0. Parts before it are laid over the array and left there: only by their escapes is it known where they end. Of units that
     // are laid as they stand a part's number tells its place, and none is looked for.
-    fn place_of(self, k: u8, septets: &mut [u8]) -> Place
-        requires { (k < self.plan.total) × Blank self.plan septets.old }
-        ensures placed { Placed self.entry.plan self.entry.units.now k result.unit result.half }
-        ensures blank { Blank self.entry.plan septets.new }
+    fn place_of(&self, k: u8, septets: &mut [u8]) -> Place
+        requires { (k < self.now.plan.total) × Blank self.now.plan septets.old }
+        ensures placed { Placed self.now.plan self.now.units.now k result.unit result.half }
+        ensures blank { Blank self.now.plan septets.new }
     {
         let mut place = Place {
             unit: 0,
@@ -233,10 +233,10 @@ impl Message<'_> {
     }
 
     // Lays all parts over the front of out, end to end, and for each its count and how many octets it has over the front of sizes.
-    fn put_all(self, out: &mut [u8], sizes: &mut [u8])
-        requires { (140 * (self.plan.total - 1) + plan_octets self.plan (self.plan.total - 1) ≤ length out.old) × (2 * self.plan.total ≤ length sizes.old) }
-        ensures out_after { out.new ≡ laid (all_octets self.entry.plan.ucs2 self.entry.reference self.entry.plan.total (content_of self.entry.plan.ucs2 self.entry.units.now) 1 self.entry.plan.total) out.old }
-        ensures sizes_after { sizes.new ≡ laid (all_sizes self.entry.plan.ucs2 self.entry.reference self.entry.plan.total (content_of self.entry.plan.ucs2 self.entry.units.now) 1 self.entry.plan.total) sizes.old }
+    fn put_all(&self, out: &mut [u8], sizes: &mut [u8])
+        requires { (140 * (self.now.plan.total - 1) + plan_octets self.now.plan (self.now.plan.total - 1) ≤ length out.old) × (2 * self.now.plan.total ≤ length sizes.old) }
+        ensures out_after { out.new ≡ laid (all_octets self.now.plan.ucs2 self.now.reference self.now.plan.total (content_of self.now.plan.ucs2 self.now.units.now) 1 self.now.plan.total) out.old }
+        ensures sizes_after { sizes.new ≡ laid (all_sizes self.now.plan.ucs2 self.now.reference self.now.plan.total (content_of self.now.plan.ucs2 self.now.units.now) 1 self.now.plan.total) sizes.old }
     {
         let mut septets = [0u8; 184];
         let mut place = Place {
@@ -253,11 +253,11 @@ impl Message<'_> {
     }
 
     // Lays part k, which begins at a place, over the front of out, and answers where the next one begins.
-    fn put_part(self, k: u8, from: Place, septets: &mut [u8], out: &mut [u8]) -> Place
-        requires { (k < self.plan.total) × Blank self.plan septets.old × (plan_octets self.plan k ≤ length out.old) × Placed self.plan self.units.now k from.unit from.half }
-        ensures out_after { out.new ≡ laid (part_octets self.entry.plan.ucs2 self.entry.reference self.entry.plan.total (content_of self.entry.plan.ucs2 self.entry.units.now) (k + 1)) out.old }
-        ensures placed { Placed self.entry.plan self.entry.units.now (k + 1) result.unit result.half }
-        ensures blank { Blank self.entry.plan septets.new }
+    fn put_part(&self, k: u8, from: Place, septets: &mut [u8], out: &mut [u8]) -> Place
+        requires { (k < self.now.plan.total) × Blank self.now.plan septets.old × (plan_octets self.now.plan k ≤ length out.old) × Placed self.now.plan self.now.units.now k from.unit from.half }
+        ensures out_after { out.new ≡ laid (part_octets self.now.plan.ucs2 self.now.reference self.now.plan.total (content_of self.now.plan.ucs2 self.now.units.now) (k + 1)) out.old }
+        ensures placed { Placed self.now.plan self.now.units.now (k + 1) result.unit result.half }
+        ensures blank { Blank self.now.plan septets.new }
     {
         let plan = self.plan;
         let n = cutting::part_length(plan, k);
@@ -278,10 +278,10 @@ impl Message<'_> {
     }
 
     // Lays the septets of part k over an array, behind those that its header takes, which are 0, and answers where the next part begins.
-    fn lay_part(self, k: u8, from: Place, septets: &mut [u8]) -> Place
-        requires { (self.plan.ucs2 ≡ false) × (k < self.plan.total) × Blank self.plan septets.old × Placed self.plan self.units.now k from.unit from.half }
-        ensures placed { Placed self.entry.plan self.entry.units.now (k + 1) result.unit result.half }
-        ensures laid_part { LaidPart self.entry.plan self.entry.units.now k septets.new }
+    fn lay_part(&self, k: u8, from: Place, septets: &mut [u8]) -> Place
+        requires { (self.now.plan.ucs2 ≡ false) × (k < self.now.plan.total) × Blank self.now.plan septets.old × Placed self.now.plan self.now.units.now k from.unit from.half }
+        ensures placed { Placed self.now.plan self.now.units.now (k + 1) result.unit result.half }
+        ensures laid_part { LaidPart self.now.plan self.now.units.now k septets.new }
     {
         let plan = self.plan;
         let n = cutting::part_length(plan, k);

@@ -17,15 +17,15 @@ returns-then-self c =
 
 pub loop-j-init : goal.loop-j-init
 loop-j-init c = let a = c.args in
-    ((λ other. subst (λ (m : ℕ). PlaceAt a.self.units.now m 0 false) (sym (begins-0 a.self.plan a.self.units.now c.args.self.cut)) (place-begins a.self.units.now)), c.requires.1)
+    ((λ other. subst (λ (m : ℕ). PlaceAt a.self.now.units.now m 0 false) (sym (begins-0 a.self.now.plan a.self.now.units.now c.args.self.now.cut)) (place-begins a.self.now.units.now)), c.requires.1)
 
 pub lay_part-place-requires : goal.lay_part-place-requires
-lay_part-place-requires c = (septets-plan c.args.self.plan c.args.self.units.now c.args.self.cut c.if-self.false, omega (arith, c.requires.0, c.loop-j-test.true), c.loop-j.invariant.1, c.loop-j.invariant.0)
+lay_part-place-requires c = (septets-plan c.args.self.now.plan c.args.self.now.units.now c.args.self.now.cut c.if-self.false, omega (arith, c.requires.0, c.loop-j-test.true), c.loop-j.invariant.1, c.loop-j.invariant.0)
 
 pub loop-j-preserved : goal.loop-j-preserved
 loop-j-preserved c = let a = c.args in
-    let few : c.loop-j.j < a.self.plan.total = omega (arith, c.requires.0, c.loop-j-test.true) in
-    (c.lay_part-place.ensures.placed, blank-after a.self.plan a.self.units.now c.args.self.cut c.loop-j.j few _ c.lay_part-place.ensures.laid_part)
+    let few : c.loop-j.j < a.self.now.plan.total = omega (arith, c.requires.0, c.loop-j-test.true) in
+    (c.lay_part-place.ensures.placed, blank-after a.self.now.plan a.self.now.units.now c.args.self.now.cut c.loop-j.j few _ c.lay_part-place.ensures.laid_part)
 
 pub shape_of-septets : goal.shape_of-septets
 shape_of-septets c = c.loop-j.invariant.1.0 ∙ sym c.requires.1.0
@@ -33,4 +33,4 @@ shape_of-septets c = c.loop-j.invariant.1.0 ∙ sym c.requires.1.0
 pub returns : goal.returns
 returns c = let a = c.args in
     let last : c.loop-j.j ≡ a.k = omega (arith, c.loop-j-test.false, c.loop-j.auto.j-end) in
-    record { placed = (λ other. subst (λ (j : ℕ). PlaceAt a.self.units.now (begins_at a.self.plan j) c.loop-j.place.unit c.loop-j.place.half) last (c.loop-j.invariant.0 other)); blank = c.loop-j.invariant.1 }
+    record { placed = (λ other. subst (λ (j : ℕ). PlaceAt a.self.now.units.now (begins_at a.self.now.plan j) c.loop-j.place.unit c.loop-j.place.half) last (c.loop-j.invariant.0 other)); blank = c.loop-j.invariant.1 }

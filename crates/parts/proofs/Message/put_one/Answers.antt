@@ -3,4 +3,4 @@ use Rattle.parted.proofs.WriteSteps.{blank_none}
 use Rattle.parts.proofs.Message.put_one.Goals as goal
 
 pub place_of-from-requires : goal.place_of-from-requires
-place_of-from-requires c = (c.requires.0, blank_none c.args.self.plan)
+place_of-from-requires c = (c.requires.0, blank_none c.args.self.now.plan)

@@ -31,42 +31,42 @@ begin-small plan k room few e =
 
 pub overflow_mul-begin : goal.overflow_mul-begin
 overflow_mul-begin c = let a = c.args in
-    record { fits = omega (arith, begin-small a.self.plan a.k c.part_room.result (omega (arith, c.requires.0, c.args.self.cut.most)) c.part_room.ensures.answer) }
+    record { fits = omega (arith, begin-small a.self.now.plan a.k c.part_room.result (omega (arith, c.requires.0, c.args.self.now.cut.most)) c.part_room.ensures.answer) }
 
 pub overflow_add-begin : goal.overflow_add-begin
 overflow_add-begin c = let a = c.args in
-    let begin = begin-small a.self.plan a.k c.part_room.result (omega (arith, c.requires.0, c.args.self.cut.most)) c.part_room.ensures.answer in
-    record { fits = omega (arith, begin, c.part_length-n.ensures.answer, length_most a.self.plan a.k, room_most a.self.plan) }
+    let begin = begin-small a.self.now.plan a.k c.part_room.result (omega (arith, c.requires.0, c.args.self.now.cut.most)) c.part_room.ensures.answer in
+    record { fits = omega (arith, begin, c.part_length-n.ensures.answer, length_most a.self.now.plan a.k, room_most a.self.now.plan) }
 
 pub offset_bounds-self-begin : goal.offset_bounds-self-begin
 offset_bounds-self-begin c = let a = c.args in
-    record { fits = omega (arith, begin-small a.self.plan a.k c.part_room.result (omega (arith, c.requires.0, c.args.self.cut.most)) c.part_room.ensures.answer) }
+    record { fits = omega (arith, begin-small a.self.now.plan a.k c.part_room.result (omega (arith, c.requires.0, c.args.self.now.cut.most)) c.part_room.ensures.answer) }
 
 -- the units of the part are there
 pub slice_bounds-put_units-end : goal.slice_bounds-put_units-end
 slice_bounds-put_units-end c = let a = c.args in
-    let fit : c.part_room.result * a.k + c.part_length-n.result ≤ length a.self.units.now =
-    subst (λ (n : ℕ). n ≤ length a.self.units.now) (sym (ap₂ (λ (r n : ℕ). r * a.k + n) c.part_room.ensures.answer c.part_length-n.ensures.answer))
-    (units-hold a.self.plan a.self.units.now c.args.self.cut a.k c.requires.0 c.if-plan.true) in
+    let fit : c.part_room.result * a.k + c.part_length-n.result ≤ length a.self.now.units.now =
+    subst (λ (n : ℕ). n ≤ length a.self.now.units.now) (sym (ap₂ (λ (r n : ℕ). r * a.k + n) c.part_room.ensures.answer c.part_length-n.ensures.answer))
+    (units-hold a.self.now.plan a.self.now.units.now c.args.self.now.cut a.k c.requires.0 c.if-plan.true) in
     search rules
 
 pub put_units-requires : goal.put_units-requires
 put_units-requires c = let a = c.args in
-    let p = a.self.plan in
-    let n : length (take (c.part_room.result * a.k + c.part_length-n.result - c.part_room.result * a.k) (drop (c.part_room.result * a.k) a.self.units.now)) ≤ part_length p a.k =
-    omega (arith, length-take (c.part_room.result * a.k + c.part_length-n.result - c.part_room.result * a.k) (drop (c.part_room.result * a.k) a.self.units.now), c.part_length-n.ensures.answer) in
-    (omega (arith, units-few p a.self.units.now c.args.self.cut a.k c.requires.0 c.if-plan.true), omega (arith, c.requires.2, octets-units p a.self.units.now c.args.self.cut a.k c.requires.0 c.if-plan.true))
+    let p = a.self.now.plan in
+    let n : length (take (c.part_room.result * a.k + c.part_length-n.result - c.part_room.result * a.k) (drop (c.part_room.result * a.k) a.self.now.units.now)) ≤ part_length p a.k =
+    omega (arith, length-take (c.part_room.result * a.k + c.part_length-n.result - c.part_room.result * a.k) (drop (c.part_room.result * a.k) a.self.now.units.now), c.part_length-n.ensures.answer) in
+    (omega (arith, units-few p a.self.now.units.now c.args.self.now.cut a.k c.requires.0 c.if-plan.true), omega (arith, c.requires.2, octets-units p a.self.now.units.now c.args.self.now.cut a.k c.requires.0 c.if-plan.true))
 
 pub returns-then-plan : goal.returns-then-plan
 returns-then-plan c = let a = c.args in
-    let p = a.self.plan in
-    let t : List ℕ = a.self.units.now in
+    let p = a.self.now.plan in
+    let t : List ℕ = a.self.now.units.now in
     let size : c.part_room.result * a.k + c.part_length-n.result - c.part_room.result * a.k ≡ part_length p a.k = omega (arith, c.part_length-n.ensures.answer) in
     let us : take (c.part_room.result * a.k + c.part_length-n.result - c.part_room.result * a.k) (drop (c.part_room.result * a.k) t) ≡ take (part_length p a.k) (drop (plan_room p * a.k) t) =
     ap₂ (λ (i r : ℕ). take i (drop (r * a.k) t)) size c.part_room.ensures.answer in
     record {
-      out_after = c.put_units.ensures ∙ ap (λ (l : List ℕ). laid l a.out.now) (part-units p t c.args.self.cut a.k c.requires.0 a.self.reference c.if-plan.true _ us);
-      placed = λ other. absurd (true-false (sym (c.args.self.cut.units c.if-plan.true) ∙ other));
+      out_after = c.put_units.ensures ∙ ap (λ (l : List ℕ). laid l a.out.now) (part-units p t c.args.self.now.cut a.k c.requires.0 a.self.now.reference c.if-plan.true _ us);
+      placed = λ other. absurd (true-false (sym (c.args.self.now.cut.units c.if-plan.true) ∙ other));
       blank = c.requires.1;
     }
 
@@ -75,8 +75,8 @@ lay_part-next-requires c = (c.if-plan.false, c.requires.0, c.requires.1, c.requi
 
 pub overflow_add-end : goal.overflow_add-end
 overflow_add-end c = let a = c.args in
-    let over : c.mark_septets.result ≤ 7 = subst (λ (n : ℕ). n ≤ 7) (sym c.mark_septets.ensures) (over-most a.self.plan.total) in
-    record { fits = omega (arith, c.part_length-n.ensures.answer, length_most a.self.plan a.k, room_most a.self.plan) }
+    let over : c.mark_septets.result ≤ 7 = subst (λ (n : ℕ). n ≤ 7) (sym c.mark_septets.ensures) (over-most a.self.now.plan.total) in
+    record { fits = omega (arith, c.part_length-n.ensures.answer, length_most a.self.now.plan a.k, room_most a.self.now.plan) }
 
 -- the septets in the array: the zeros and the part behind them
 module _ (p : Plan) (t : List ℕ) (cut : Cut p t) (k : ℕ) (h : k < p.total) (seven : p.ucs2 ≡ false) (over n : ℕ) (e : over ≡ septets_over (mark_size p.total)) (f : n ≡ part_length p k) (array : List ℕ) (l : LaidPart p t k array) where
@@ -93,17 +93,17 @@ module _ (p : Plan) (t : List ℕ) (cut : Cut p t) (k : ℕ) (h : k < p.total) (
 
 pub slice_bounds-put_septets-end : goal.slice_bounds-put_septets-end
 slice_bounds-put_septets-end c = let a = c.args in
-    within a.self.plan a.self.units.now c.args.self.cut a.k c.requires.0 c.if-plan.false _ _ c.mark_septets.ensures c.part_length-n.ensures.answer _ c.lay_part-next.ensures.laid_part
+    within a.self.now.plan a.self.now.units.now c.args.self.now.cut a.k c.requires.0 c.if-plan.false _ _ c.mark_septets.ensures c.part_length-n.ensures.answer _ c.lay_part-next.ensures.laid_part
 
 pub slice_bounds-put_septets-end-2 : goal.slice_bounds-put_septets-end-2
 slice_bounds-put_septets-end-2 c = let a = c.args in
-    sym (length-take-le _ _ (within a.self.plan a.self.units.now c.args.self.cut a.k c.requires.0 c.if-plan.false _ _ c.mark_septets.ensures c.part_length-n.ensures.answer _ c.lay_part-next.ensures.laid_part))
+    sym (length-take-le _ _ (within a.self.now.plan a.self.now.units.now c.args.self.now.cut a.k c.requires.0 c.if-plan.false _ _ c.mark_septets.ensures c.part_length-n.ensures.answer _ c.lay_part-next.ensures.laid_part))
 
 pub put_septets-requires : goal.put_septets-requires
 put_septets-requires c = let a = c.args in
-    let w = ready a.self.plan a.self.units.now c.args.self.cut a.k c.requires.0 c.if-plan.false _ _ c.mark_septets.ensures c.part_length-n.ensures.answer _ c.lay_part-next.ensures.laid_part in
-    let octets = octets-septets a.self.plan a.self.units.now c.args.self.cut a.k c.requires.0 c.if-plan.false in
-    let fits = over-fits a.self.plan a.self.units.now c.args.self.cut a.k c.requires.0 c.if-plan.false in
+    let w = ready a.self.now.plan a.self.now.units.now c.args.self.now.cut a.k c.requires.0 c.if-plan.false _ _ c.mark_septets.ensures c.part_length-n.ensures.answer _ c.lay_part-next.ensures.laid_part in
+    let octets = octets-septets a.self.now.plan a.self.now.units.now c.args.self.now.cut a.k c.requires.0 c.if-plan.false in
+    let fits = over-fits a.self.now.plan a.self.now.units.now c.args.self.now.cut a.k c.requires.0 c.if-plan.false in
     record {
       septets_len_bound = (omega (arith, w.0), omega (arith, w.0), subst (λ (n : ℕ). n ≤ length a.out.now) (octets ∙ ap octets_for (sym w.0)) c.requires.2, w.1);
       septets_value = w.2;
@@ -111,15 +111,15 @@ put_septets-requires c = let a = c.args in
 
 pub returns : goal.returns
 returns c = let a = c.args in
-    let p = a.self.plan in
-    let t : List ℕ = a.self.units.now in
-    let numbers : Numbers = record { reference = a.self.reference; total = p.total; number = a.k + 1 } in
+    let p = a.self.now.plan in
+    let t : List ℕ = a.self.now.units.now in
+    let numbers : Numbers = record { reference = a.self.now.reference; total = p.total; number = a.k + 1 } in
     let array : List ℕ = c.lay_part-next.new.septets in
-    let whole = sum p t c.args.self.cut a.k c.requires.0 c.if-plan.false _ _ c.mark_septets.ensures c.part_length-n.ensures.answer array c.lay_part-next.ensures.laid_part in
+    let whole = sum p t c.args.self.now.cut a.k c.requires.0 c.if-plan.false _ _ c.mark_septets.ensures c.part_length-n.ensures.answer array c.lay_part-next.ensures.laid_part in
     record {
       out_after = c.put_septets.ensures
           ∙ ap (λ (n : ℕ). laid (headed_octets false (mark_header p.total numbers) (drop (septets_over (mark_size p.total)) (take n array))) a.out.now) whole
-          ∙ ap (λ (l : List ℕ). laid l a.out.now) (part-septets p t c.args.self.cut a.k c.requires.0 a.self.reference c.if-plan.false array c.lay_part-next.ensures.laid_part);
+          ∙ ap (λ (l : List ℕ). laid l a.out.now) (part-septets p t c.args.self.now.cut a.k c.requires.0 a.self.now.reference c.if-plan.false array c.lay_part-next.ensures.laid_part);
       placed = c.lay_part-next.ensures.placed;
-      blank = blank-after p t c.args.self.cut a.k c.requires.0 array c.lay_part-next.ensures.laid_part;
+      blank = blank-after p t c.args.self.now.cut a.k c.requires.0 array c.lay_part-next.ensures.laid_part;
     }
