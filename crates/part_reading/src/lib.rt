@@ -1,8 +1,11 @@
 // One short message read, with or without a user data header in front of its text.
 #![tactic(auto)]
 
-ghost use Rattle.std.specs.Prelude.{◌≡◌, true, false, cond, ◌≤◌, ltb, length};
+ghost use Rattle.std.specs.Prelude.{◌≡◌, true, false, cond, ◌-◌, ◌≤◌, ltb, length};
+ghost use Rattle.letters.specs.Reading.{text_of};
+ghost use Rattle.stream.specs.Storing.{given_answers, given_leaves};
 ghost use Rattle.headed.specs.Header.{septets_over};
+ghost use Rattle.parted.specs.Behind.{unpacked_behind};
 ghost use Rattle.parted.specs.Read.{count_fits, part_reads, part_read_leaves};
 ghost use Rattle.parted.specs.Inner.{held_reads, held_read_leaves, behind_reads, behind_read_leaves, tail_reads, tail_leaves};
 
@@ -115,38 +118,30 @@ fn read_tail(
     ensures buffer { out.new ≡ tail_leaves ucs2 size count octets.now out.old }
 {
     if ucs2 {
-        return read_units(size, octets, out);
+        return read_units(&octets[size..], out);
     }
-    read_septets(size, over, count, octets, out)
+    read_septets(over, count, octets, out)
 }
 
 // UCS2: the octets behind the header are the units.
-fn read_units(size: usize, octets: &[u8], out: &mut [u16]) -> Result<usize, Refusal>
-    requires { size ≤ length octets.now }
-    ensures answer { result ≡ tail_reads true size 0 octets.now (length out.old) }
-    ensures buffer { out.new ≡ tail_leaves true size 0 octets.now out.old }
+fn read_units(behind: &[u8], out: &mut [u16]) -> Result<usize, Refusal>
+    ensures answer { result ≡ tail_reads true 0 0 behind.now (length out.old) }
+    ensures buffer { out.new ≡ tail_leaves true 0 0 behind.now out.old }
 {
-    let behind = octets.len() - size;
-    if behind % 2 == 1 {
+    if behind.len() % 2 == 1 {
         return Err(Refusal::WrongLength);
     }
-    if out.len() < behind / 2 {
+    if out.len() < behind.len() / 2 {
         return Err(Refusal::NoRoom);
     }
-    Ok(to_units::lay_units(&octets[size..], out))
+    Ok(to_units::lay_units(behind, out))
 }
 
-// 7-bit text: the octets unpacked into septets of our own, and those behind the header read by the alphabet.
-fn read_septets(
-    size: usize,
-    over: usize,
-    count: usize,
-    octets: &[u8],
-    out: &mut [u16],
-) -> Result<usize, Refusal>
-    requires { (count_fits false (length octets.now) count ≡ true) × (over ≡ septets_over size) × (over ≤ count) }
-    ensures answer { result ≡ tail_reads false size count octets.now (length out.old) }
-    ensures buffer { out.new ≡ tail_leaves false size count octets.now out.old }
+// 7-bit text behind so many septets: the octets unpacked into septets of our own, and those behind read by the alphabet.
+fn read_septets(over: usize, count: usize, octets: &[u8], out: &mut [u16]) -> Result<usize, Refusal>
+    requires { (count_fits false (length octets.now) count ≡ true) × (over ≤ count) }
+    ensures answer { result ≡ given_answers (text_of (unpacked_behind over (count - over) octets.now)) (length out.old) }
+    ensures buffer { out.new ≡ given_leaves (text_of (unpacked_behind over (count - over) octets.now)) out.old }
 {
     let mut septets = [0u8; 184];
     let _ = packing::unpack_all(Service::ShortMessage, octets, count, &mut septets);

@@ -6,22 +6,22 @@
 --   held-behind, held_none   what the reading holds says how the text is read
 --   behind-misfit, behind-alone, behind-headless, behind-headed   a text by its length, its mark and its header
 --   head-none, head-right, not-past   whether a header stands in front
---   units-odd, units-short, units-tail   UCS2 behind a header
---   septets-room, septets-tail   7-bit text behind a header, from the array that all septets stand in
-use mathlib.Core.Path.{◌≡◌, refl, sym, ap, ap₂, ◌∙◌, subst}
+--   units-odd, units-short, units-tail, units-behind   UCS2 by itself, and behind a header
+--   septets-room, septets-given, septets-behind   7-bit text from the array that all septets stand in, and behind a header
+use mathlib.Core.Path.{◌≡◌, refl, sym, ap, ap₂, ◌∙◌}
 use mathlib.Core.Bool.{Bool, true, false, cond, ◌&&◌}
-use mathlib.Core.List.{List, ◌++◌}
+use mathlib.Core.List.{List, [], ◌∷◌, ◌++◌}
 use Prim.Native.Nat.{ℕ, ◌+◌, ◌-◌, ◌*◌, ◌/◌, ◌%◌, ◌^◌, ◌≤◌, ◌<◌}
 use native.Mathlib.Nat.{mod-lt}
 use native.Mathlib.Omega.{arith}
 use borrow.Author.Tests.{lt-ltb, le-ltb, lt-leb, leb-true, ltb-false, eq-eqb, ne_eqb}
-use lib.Dec.{lit<, ltb, leb}
+use lib.Dec.{lit<, ltb, leb, eqb}
 use lib.ListN.{length, get_or, take, drop, replicate, length-drop}
 use lib.Seq.{drop-append-le, take_all, take_at}
 use Rattle.words.specs.declared.Service.TheVariants.{ShortMessage}
 use Rattle.words.specs.declared.Refusal.{Refusal}
 use Rattle.words.specs.declared.Refusal.TheVariants.{WrongLength, WrongHeader, NoRoom}
-use Rattle.words.specs.Judging.{Rule, Verdict, refused, accepted, verdict, settle}
+use Rattle.words.specs.Judging.{Rule, when, Verdict, refused, accepted, verdict, settle}
 use Rattle.words.proofs.Judging.{verdict-refused-first, verdict-accepted-first}
 use Rattle.lists.specs.Lists.{first_wide, laid}
 use Rattle.lists.specs.Bits.{bit_of}
@@ -37,6 +37,7 @@ use Rattle.letters.specs.Reading.{text_of, text_answers, text_leaves, text_rules
 use Rattle.stream.specs.Stream.{stream_bit, unpacked}
 use Rattle.stream.specs.ArrayCalls.{all_rules, all_leaves}
 use Rattle.stream.specs.Ucs2.{octet_units}
+use Rattle.stream.specs.Storing.{given_answers, given_leaves}
 use Rattle.stream.proofs.Stream.{unpacked-length}
 use Rattle.stream.proofs.UnitOctets.{octet-units-length}
 use Rattle.demands.proofs.Steps.{held-verdict, leaves-agree, held_as, told_text, holds-text}
@@ -145,26 +146,33 @@ module _ (ucs2 marked : Bool) (count : ℕ) (o out : List ℕ) where
 
 -- ---- UCS2
 
-module _ (size count : ℕ) (o out : List ℕ) where
-  pub units-odd : (length o - size) % 2 ≡ 1 → (Err WrongLength ≡ tail_reads true size count o (length out)) × (out ≡ tail_leaves true size count o out)
+module _ (o out : List ℕ) where
+  pub units-odd : length o % 2 ≡ 1 → (Err WrongLength ≡ tail_reads true 0 0 o (length out)) × (out ≡ tail_leaves true 0 0 o out)
   unfolding tail_reads tail_leaves tail_rules odd_behind verdict
-  units-odd odd = simp (eq-eqb ((length o - size) % 2) 1 odd) (refl, refl)
+  units-odd odd = simp (eq-eqb ((length o - 0) % 2) 1 (omega (arith, odd))) (refl, refl)
 
-  units-length : length (octet_units (drop size o)) ≡ (length o - size) / 2
-  units-length = octet-units-length (drop size o) ∙ ap (λ (n : ℕ). n / 2) (length-drop size o)
-
-  pub units-short : ((length o - size) % 2 ≡ 1 → ⊥) → length out < (length o - size) / 2
-      → (Err NoRoom ≡ tail_reads true size count o (length out)) × (out ≡ tail_leaves true size count o out)
+  pub units-short : (length o % 2 ≡ 1 → ⊥) → length out < length o / 2
+      → (Err NoRoom ≡ tail_reads true 0 0 o (length out)) × (out ≡ tail_leaves true 0 0 o out)
   unfolding tail_reads tail_leaves tail_rules odd_behind content_behind verdict
-  units-short even short = simp (ne_eqb ((length o - size) % 2) 1 even, lt-ltb (length out) (length (octet_units (drop size o))) (omega (arith, units-length))) (refl, refl)
+  units-short even short =
+      simp (ne_eqb ((length o - 0) % 2) 1 (λ e. even (omega (arith, e))), lt-ltb (length out) (length (octet_units o)) (omega (arith, octet-units-length o))) (refl, refl)
 
-  pub units-tail : ((length o - size) % 2 ≡ 1 → ⊥) → (length o - size) / 2 ≤ length out → (p : List ℕ) → p ≡ drop size o
-      → (Ok (length (take (length out) (octet_units p))) ≡ tail_reads true size count o (length out)) × (laid (take (length out) (octet_units p)) out ≡ tail_leaves true size count o out)
+  pub units-tail : (length o % 2 ≡ 1 → ⊥) → length o / 2 ≤ length out
+      → (Ok (length (take (length out) (octet_units o))) ≡ tail_reads true 0 0 o (length out)) × (laid (take (length out) (octet_units o)) out ≡ tail_leaves true 0 0 o out)
   unfolding tail_reads tail_leaves tail_rules odd_behind content_behind verdict
-  units-tail even room p e =
-      let all : take (length out) (octet_units p) ≡ octet_units (drop size o) =
-      take_all (length out) (octet_units p) (subst (λ (l : List ℕ). length (octet_units l) ≤ length out) (sym e) (omega (arith, units-length))) ∙ ap octet_units e in
-      simp (ne_eqb ((length o - size) % 2) 1 even, le-ltb (length out) (length (octet_units (drop size o))) (omega (arith, units-length)), all) (refl, refl)
+  units-tail even room =
+      let all : take (length out) (octet_units o) ≡ octet_units o = take_all (length out) (octet_units o) (omega (arith, octet-units-length o)) in
+      simp (ne_eqb ((length o - 0) % 2) 1 (λ e. even (omega (arith, e))), le-ltb (length out) (length (octet_units o)) (omega (arith, octet-units-length o)), all) (refl, refl)
+
+-- behind a header of so many octets
+module _ (size count : ℕ) (o out : List ℕ) where
+  pub units-behind : (tail_reads true 0 0 (drop size o) (length out) ≡ tail_reads true size count o (length out)) × (tail_leaves true 0 0 (drop size o) out ≡ tail_leaves true size count o out)
+  unfolding tail_reads tail_leaves tail_rules odd_behind content_behind
+  units-behind =
+      let long : length (drop size o) - 0 ≡ length o - size = omega (arith, length-drop size o) in (
+        ap (λ (n : ℕ). settle (verdict (when (eqb (n % 2) 1) WrongLength ∷ when (ltb (length out) (length (octet_units (drop size o)))) NoRoom ∷ [])) Err (Ok (length (octet_units (drop size o))))) long,
+        ap (λ (n : ℕ). settle (verdict (when (eqb (n % 2) 1) WrongLength ∷ when (ltb (length out) (length (octet_units (drop size o)))) NoRoom ∷ [])) (λ q. out) (laid (octet_units (drop size o)) out)) long,
+      )
 
 -- ---- 7-bit text
 
@@ -206,13 +214,20 @@ module _ (count : ℕ) (o : List ℕ) (fits : count_fits false (length o) count 
       let below : Below 128 s = cut_below (stream_bit 8 o) (λ m. mod-lt (get_or o (m / 8) 0 / 2 ^ (m % 8)) (lit< tt)) (7 * over) n in
       omega (arith, place_none (leb 128) s (λ k l. lt-leb 128 (get_or s k 0) (below k)))
 
-  pub septets-tail : (size over : ℕ) → over ≡ septets_over size → over ≤ count → (left : List ℕ) → left ≡ all_leaves ShortMessage o count (replicate 184 0)
-      → (out s : List ℕ) → s ≡ take (count - over) (drop over left)
-      → (text_answers s (text_of s) (length out) ≡ tail_reads false size count o (length out)) × (text_leaves s (text_of s) out ≡ tail_leaves false size count o out)
-  unfolding text_answers text_leaves shown_rules tail_reads tail_leaves tail_rules odd_behind content_behind verdict
-  septets-tail size over is h left e out s p =
-      let run : s ≡ unpacked_behind (septets_over size) (count - septets_over size) o = p ∙ run-behind over h left e ∙ ap (λ (n : ℕ). unpacked_behind n (count - n) o) is in
-      simp (run, le-ltb _ _ (narrow (septets_over size) (count - septets_over size))) (refl, refl)
+  pub septets-given : (over : ℕ) → over ≤ count → (left : List ℕ) → left ≡ all_leaves ShortMessage o count (replicate 184 0) → (out s : List ℕ) → s ≡ take (count - over) (drop over left)
+      → (text_answers s (text_of s) (length out) ≡ given_answers (text_of (unpacked_behind over (count - over) o)) (length out))
+      × (text_leaves s (text_of s) out ≡ given_leaves (text_of (unpacked_behind over (count - over) o)) out)
+  unfolding text_answers text_leaves shown_rules given_answers given_leaves verdict
+  septets-given over h left e out s p =
+      let run : s ≡ unpacked_behind over (count - over) o = p ∙ run-behind over h left e in
+      simp (run, le-ltb _ _ (narrow over (count - over))) (refl, refl)
+
+-- behind a header of so many octets
+module _ (size count : ℕ) (o out : List ℕ) (over : ℕ) (is : over ≡ septets_over size) where
+  pub septets-behind : (given_answers (text_of (unpacked_behind over (count - over) o)) (length out) ≡ tail_reads false size count o (length out))
+      × (given_leaves (text_of (unpacked_behind over (count - over) o)) out ≡ tail_leaves false size count o out)
+  unfolding given_answers given_leaves tail_reads tail_leaves tail_rules odd_behind content_behind verdict
+  septets-behind = simp is (refl, refl)
 
 -- ---- whether a header stands in front
 

@@ -2,7 +2,7 @@
 use mathlib.Core.Path.{refl, ◌∙◌}
 use lib.ListN.{length}
 use Prim.Native.Nat.{◌≤◌}
-use Rattle.parted.proofs.ReadSteps.{septets-room, septets-tail}
+use Rattle.parted.proofs.ReadSteps.{septets-room, septets-given}
 use borrow.Author.Rules.{rules}
 use Rattle.part_reading.proofs.read_septets.Goals as goal
 
@@ -15,5 +15,5 @@ slice_bounds-septets_to_text-end c =
 pub returns : goal.returns
 returns c =
     let a = c.args in
-    let t = septets-tail a.count a.octets.now c.requires.0 a.size a.over c.requires.1 c.requires.2 c.unpack_all.new.out c.unpack_all.ensures.buffer a.out.now _ refl in
+    let t = septets-given a.count a.octets.now c.requires.0 a.over c.requires.1 c.unpack_all.new.out c.unpack_all.ensures.buffer a.out.now _ refl in
     record { answer = c.septets_to_text.ensures.answer ∙ t.0; buffer = c.septets_to_text.ensures.buffer ∙ t.1 }
