@@ -48,7 +48,6 @@ use Rattle.wikuay.specs.Calls.{read_message_gives, read_message_keeps, write_mes
 use Rattle.names.specs.Said.{coded_in, held_by, heard_by}
 use Rattle.std.specs.Prelude.{Result, Option, Ok, Err, Some, None}
 use Rattle.coding.specs.declared.Held.TheVariants as held
-use Rattle.lettered.specs.Successes.{ok_lettered_read}
 use Rattle.demands.specs.Successes.{ok_message_read}
 
 -- ---- writing

@@ -1,6 +1,6 @@
 -- `wikuay_holds_text` meets its contract: the library's call does, for what the numbers name. Assumes nothing.
 use Rattle.wikuay.specs.Calls.{holds_text_gives}
-use mathlib.Core.Path.{sym, ◌∙◌}
+use mathlib.Core.Path.{sym}
 use Rattle.wikuay.proofs.wikuay_holds_text.Goals as goal
 
 pub returns : goal.returns

@@ -4,7 +4,7 @@ use Rattle.wikuay.specs.Calls.{pack_gives, pack_keeps}
 use Rattle.stream.specs.declared.Packed.{Packed}
 use Rattle.stream.specs.Answers.{packed_count}
 use Prim.Native.Nat.{◌≤◌}
-use mathlib.Core.Path.{sym, ◌∙◌, subst}
+use mathlib.Core.Path.{sym, subst}
 use Rattle.wikuay.proofs.wikuay_pack.Goals as goal
 use Rattle.std.specs.Prelude.{Result}
 use Rattle.words.specs.declared.Refusal.{Refusal}

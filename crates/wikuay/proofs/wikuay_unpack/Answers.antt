@@ -1,6 +1,6 @@
 -- `wikuay_unpack` meets its contract: the library's call does, for what the numbers name. Assumes nothing.
 use Rattle.wikuay.specs.Calls.{unpack_gives, unpack_keeps}
-use mathlib.Core.Path.{sym, ◌∙◌}
+use mathlib.Core.Path.{sym}
 use Rattle.wikuay.proofs.wikuay_unpack.Goals as goal
 
 pub returns : goal.returns

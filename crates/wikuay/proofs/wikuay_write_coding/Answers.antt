@@ -1,6 +1,6 @@
 -- `wikuay_write_coding` meets its contract: the library's call does, for what the numbers name. Assumes nothing.
 use Rattle.wikuay.specs.Calls.{write_coding_gives}
-use mathlib.Core.Path.{sym, ◌∙◌}
+use mathlib.Core.Path.{sym}
 use Rattle.wikuay.proofs.wikuay_write_coding.Goals as goal
 
 pub returns : goal.returns

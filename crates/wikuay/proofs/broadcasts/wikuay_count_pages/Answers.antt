@@ -3,7 +3,7 @@ use Rattle.page_answers.proofs.MostPages.{counted-within}
 use Rattle.wikuay.specs.PageCalls.{count_pages_gives}
 use Rattle.pages.specs.Reports.{counted_pages}
 use Prim.Native.Nat.{◌≤◌}
-use mathlib.Core.Path.{sym, ◌∙◌, subst}
+use mathlib.Core.Path.{sym, subst}
 use Rattle.wikuay.proofs.broadcasts.wikuay_count_pages.Goals as goal
 use Rattle.std.specs.Prelude.{ℕ, Result}
 use Rattle.words.specs.declared.Refusal.{Refusal}

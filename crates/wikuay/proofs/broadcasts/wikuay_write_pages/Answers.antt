@@ -4,7 +4,7 @@ use Rattle.wikuay.specs.PageCalls.{write_pages_gives, write_pages_keeps}
 use Rattle.pages.specs.declared.PagesWritten.{PagesWritten}
 use Rattle.pages.specs.Reports.{pages_pages}
 use Prim.Native.Nat.{◌≤◌}
-use mathlib.Core.Path.{sym, ◌∙◌, subst}
+use mathlib.Core.Path.{sym, subst}
 use Rattle.wikuay.proofs.broadcasts.wikuay_write_pages.Goals as goal
 use Rattle.std.specs.Prelude.{Result}
 use Rattle.words.specs.declared.Refusal.{Refusal}

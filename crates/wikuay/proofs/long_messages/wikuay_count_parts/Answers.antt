@@ -3,7 +3,7 @@ use Rattle.part_answers.proofs.MostParts.{counted-within}
 use Rattle.wikuay.specs.PartCalls.{count_parts_gives}
 use Rattle.parted.specs.Reports.{counted_parts}
 use Prim.Native.Nat.{◌≤◌}
-use mathlib.Core.Path.{sym, ◌∙◌, subst}
+use mathlib.Core.Path.{sym, subst}
 use Rattle.wikuay.proofs.long_messages.wikuay_count_parts.Goals as goal
 use Rattle.std.specs.Prelude.{ℕ, Result}
 use Rattle.words.specs.declared.Refusal.{Refusal}

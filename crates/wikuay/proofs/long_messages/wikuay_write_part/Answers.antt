@@ -4,7 +4,7 @@ use Rattle.wikuay.specs.PartCalls.{write_part_gives, write_part_keeps}
 use Rattle.parted.specs.declared.PartWritten.{PartWritten}
 use Rattle.parted.specs.Reports.{part_travels, part_parts}
 use Prim.Native.Nat.{◌≤◌}
-use mathlib.Core.Path.{sym, ◌∙◌, subst}
+use mathlib.Core.Path.{sym, subst}
 use Rattle.wikuay.proofs.long_messages.wikuay_write_part.Goals as goal
 use Rattle.std.specs.Prelude.{Result}
 use Rattle.words.specs.declared.Refusal.{Refusal}

@@ -4,7 +4,7 @@ use Rattle.wikuay.specs.PartCalls.{write_parts_gives, write_parts_keeps, write_p
 use Rattle.parted.specs.declared.PartsWritten.{PartsWritten}
 use Rattle.parted.specs.Reports.{parts_parts}
 use Prim.Native.Nat.{◌≤◌}
-use mathlib.Core.Path.{sym, ◌∙◌, subst}
+use mathlib.Core.Path.{sym, subst}
 use Rattle.wikuay.proofs.long_messages.wikuay_write_parts.Goals as goal
 use Rattle.std.specs.Prelude.{Result}
 use Rattle.words.specs.declared.Refusal.{Refusal}

@@ -1,5 +1,5 @@
 -- `wikuay_meter_cleared` meets its contract: the library's call does, for the record that the numbers name. Assumes nothing.
-use mathlib.Core.Path.{sym, ◌∙◌}
+use mathlib.Core.Path.{sym}
 use Rattle.wikuay.specs.MeterCalls.{meter_cleared_gives}
 use Rattle.wikuay.proofs.meters.wikuay_meter_cleared.Goals as goal
 

@@ -1,5 +1,5 @@
 -- `wikuay_room_left` meets its contract: the record that the numbers name is shown as it is. Assumes nothing.
-use mathlib.Core.Path.{sym, ◌∙◌}
+use mathlib.Core.Path.{sym}
 use Rattle.wikuay.specs.MeterCalls.{room_left_gives}
 use Rattle.wikuay.proofs.meters.wikuay_room_left.Goals as goal
 

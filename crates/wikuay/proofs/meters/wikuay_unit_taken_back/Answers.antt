@@ -1,5 +1,5 @@
 -- `wikuay_unit_taken_back` meets its contract: the library's call does, for the record that the numbers name. Assumes nothing.
-use mathlib.Core.Path.{sym, ◌∙◌}
+use mathlib.Core.Path.{sym}
 use Rattle.wikuay.specs.MeterCalls.{unit_taken_back_gives}
 use Rattle.wikuay.proofs.meters.wikuay_unit_taken_back.Goals as goal
 
