@@ -1,258 +1,290 @@
 // A message drawn: its octets, where each septet or unit lies in them, and what it means.
+ghost use Rattle.std.specs.Prelude.{◌+◌, ◌*◌, ◌/◌, ◌≤◌, ◌<◌};
+
 use crate::asked::Job;
-use crate::{asked, tell};
+use crate::tell::{Answer, Value, front};
+use crate::verb::Service;
 use names::ReadingNumbers;
-use printed::put;
 
 const ESCAPE: u8 = 0x1b;
 
-fn wide(octet: u8) -> usize {
-    octet as usize
-}
+const CR: u8 = 13;
 
-fn octets(out: &mut [u8], at: usize, list: &[u8]) -> usize {
-    let mut end = at;
-    for j in 0..list.len() {
-        let v = wide(list[j]);
-        let numbers = [j, v, v % 256 * 16 + 8];
-        end = tell::say(out, end, tell::PEOPLE, b"octet # $ !/", &numbers);
+// The number that the C interface gives to UCS2.
+const UCS2: u8 = 2;
+
+fn octets(answer: &mut Answer<'_>, list: &[u8]) {
+    for (j, octet) in list.iter().enumerate() {
+        answer.puts(&[
+            Value::Word(b"octet "),
+            Value::Number(j as u64),
+            Value::Word(b" "),
+            Value::Octet(*octet),
+            Value::Word(b" "),
+            Value::Bits(*octet, 8),
+            Value::Word(b"\n"),
+        ]);
     }
-    end
 }
 
-// The bits of octet j from high down to low.
-fn place(out: &mut [u8], at: usize, j: usize, high: usize, low: usize) -> usize {
+// A place in octets: a bit of one of them, 0 the lowest.
+#[derive(Clone, Copy)]
+struct Place {
+    octet: usize,
+    bit: usize,
+}
+
+// Where the septet k begins: bits 7k to 7k + 6 of the stream, eight to an octet, lowest first.
+fn place_of(k: usize) -> Place
+    ensures octet { result.octet ≤ k / 8 * 7 + 6 }
+    ensures bit { result.bit < 8 }
+{
+    Place {
+        octet: k / 8 * 7 + k % 8 * 7 / 8,
+        bit: k % 8 * 7 % 8,
+    }
+}
+
+// The bits of an octet from high down to low.
+fn bits(answer: &mut Answer<'_>, octet: usize, high: usize, low: usize) {
+    answer.puts(&[Value::Word(b" octet "), Value::Number(octet as u64)]);
     if low < high {
-        let numbers = [j, high, low];
-        return tell::say(out, at, tell::PEOPLE, b" octet # bits #..#", &numbers);
-    }
-    let numbers = [j, low];
-    tell::say(out, at, tell::PEOPLE, b" octet # bit #", &numbers)
-}
-
-// A septet and where it lies: bits 7k to 7k + 6 of the stream, eight to an octet, lowest first.
-fn septet(out: &mut [u8], at: usize, k: usize, value: u8) -> usize {
-    let v = wide(value);
-    let numbers = [k, v, v % 128 * 32 + 7];
-    let end = tell::say(out, at, tell::PEOPLE, b"septet # $ !", &numbers);
-    let j = k % 200 * 7 / 8;
-    let low = k % 200 * 7 % 8;
-    if low < 2 {
-        return place(out, end, j, low + 6, low);
-    }
-    let end = place(out, end, j, 7, low);
-    let end = put(out, end, b",");
-    place(out, end, j + 1, low - 2, 0)
-}
-
-// How a unit is named: LF, CR, a space, or as it is.
-fn letter_of(unit: u16) -> usize {
-    match unit {
-        10 => 0,
-        13 => 1,
-        32 => 2,
-        _ => 3,
+        answer.puts(&[
+            Value::Word(b" bits "),
+            Value::Number(high as u64),
+            Value::Word(b".."),
+            Value::Number(low as u64),
+        ]);
+    } else {
+        answer.puts(&[Value::Word(b" bit "), Value::Number(low as u64)]);
     }
 }
 
-// How the septets in front of a text are told (`meaning`).
-const LETTER: usize = 6;
+// A septet and where it lies.
+fn septet(answer: &mut Answer<'_>, k: usize, septet: u8) {
+    answer.puts(&[
+        Value::Word(b"septet "),
+        Value::Number(k as u64),
+        Value::Word(b" "),
+        Value::Octet(septet),
+        Value::Word(b" "),
+        Value::Bits(septet % 128 * 2, 7),
+    ]);
+    let place = place_of(k);
+    if place.bit < 2 {
+        bits(answer, place.octet, place.bit + 6, place.bit);
+    } else {
+        bits(answer, place.octet, 7, place.bit);
+        answer.put(Value::Word(b","));
+        bits(answer, place.octet + 1, place.bit - 2, 0);
+    }
+}
 
-const BEHIND: usize = 7;
+// What a septet or a unit means.
+#[derive(Clone, Copy, PartialEq, Eq)]
+enum Meaning {
+    Letter(u16),
+    WithEscape(u16),
+    Unlisted(u16),
+    // It waits for the next septet.
+    Escape,
+    SecondEscape,
+    LastEscape,
+    LanguageLetter(u16),
+    CrBehindLetters,
+}
 
-// What a septet means, and its unit, where it has one.
-fn meaning(out: &mut [u8], at: usize, how: usize, unit: u16) -> usize {
-    let named = how < 3 || how == LETTER;
-    let numbers = [how, if named { letter_of(unit) } else { 4 }];
-    let one = [unit];
-    tell::tell(
-        out,
-        at,
-        tell::PEOPLE,
-        b": {|with the escape |not listed behind an escape, with it |escape|a second escape, with the first a space|
-escape with nothing behind it, a space|language letter |CR behind the letters}{LF|CR|space|~|}/",
-        &numbers,
-        b"",
-        &one,
-    )
+impl Meaning {
+    fn put(self, answer: &mut Answer<'_>) {
+        answer.put(Value::Word(b": "));
+        let (words, unit): (&[u8], Option<u16>) = match self {
+            Meaning::Letter(unit) => (b"", Some(unit)),
+            Meaning::WithEscape(unit) => (b"with the escape ", Some(unit)),
+            Meaning::Unlisted(unit) => (b"not listed behind an escape, with it ", Some(unit)),
+            Meaning::Escape => (b"escape", None),
+            Meaning::SecondEscape => (b"a second escape, with the first a space", None),
+            Meaning::LastEscape => (b"escape with nothing behind it, a space", None),
+            Meaning::LanguageLetter(unit) => (b"language letter ", Some(unit)),
+            Meaning::CrBehindLetters => (b"CR behind the letters", None),
+        };
+        answer.put(Value::Word(words));
+        match unit {
+            Some(10) => answer.put(Value::Word(b"LF")),
+            Some(13) => answer.put(Value::Word(b"CR")),
+            Some(32) => answer.put(Value::Word(b"space")),
+            Some(unit) => answer.put(Value::Text(&[unit])),
+            None => {}
+        }
+        answer.put(Value::Word(b"\n"));
+    }
 }
 
 // Whether the septet alone reads as the unit.
 fn reads_as(septet: u8, unit: u16) -> bool {
-    let alone = [septet];
     let mut units = [0u16; 1];
-    wikuay::wikuay_septets_to_text(&alone, &mut units);
+    wikuay::wikuay_septets_to_text(&[septet], &mut units);
     units[0] == unit
 }
 
-// How a septet is told (`meaning`): 3 is an escape that waits for the next one.
-fn how_of(septet: u8, waits: bool, last: bool, old: bool, unit: u16) -> usize {
+// What a septet means, behind an escape that waits for it or not, before others or as the last one.
+fn meaning_of(septet: u8, waits: bool, last: bool, old: bool, unit: u16) -> Meaning {
     if waits {
         if septet == ESCAPE {
-            4
+            Meaning::SecondEscape
         } else if reads_as(septet, unit) {
-            2
+            Meaning::Unlisted(unit)
         } else {
-            1
+            Meaning::WithEscape(unit)
         }
     } else if old || septet != ESCAPE {
-        0
+        Meaning::Letter(unit)
     } else if last {
-        5
+        Meaning::LastEscape
     } else {
-        3
+        Meaning::Escape
     }
 }
 
 // The septets from a place on.
-fn septets(out: &mut [u8], at: usize, list: &[u8], from: usize, units: &[u16], old: bool) -> usize {
-    let mut end = at;
+fn septets(answer: &mut Answer<'_>, list: &[u8], from: usize, units: &[u16], old: bool) {
     let mut waits = false;
-    let mut u: usize = 0;
-    for k in from..list.len() {
-        let unit = if u < units.len() { units[u] } else { 0 };
-        let how = how_of(list[k], waits, list.len() - k == 1, old, unit);
-        end = septet(out, end, k, list[k]);
-        end = meaning(out, end, how, unit);
-        waits = how == 3;
+    let mut rest = units;
+    for (k, value) in list.iter().enumerate().skip(from) {
+        let unit = rest.first().copied().unwrap_or(0);
+        let last = list.len() - k == 1;
+        let meaning = meaning_of(*value, waits, last, old, unit);
+        septet(answer, k, *value);
+        meaning.put(answer);
+        waits = meaning == Meaning::Escape;
         if !waits {
-            u = tell::more(u);
+            rest = rest.get(1..).unwrap_or(rest);
         }
     }
-    end
-}
-
-// A septet in front of a text.
-fn before(out: &mut [u8], at: usize, k: usize, value: u8, how: usize) -> usize {
-    let end = septet(out, at, k, value);
-    meaning(out, end, how, value as u16)
 }
 
 // The letters in front of a page's text, if there are any, and behind them a CR, or under UCS2 spare bits.
-fn letters(out: &mut [u8], at: usize, reading: ReadingNumbers, ucs2: bool, octets: &[u8]) -> usize {
-    if reading.first == 0 {
-        return at;
+fn letters(answer: &mut Answer<'_>, reading: ReadingNumbers, octets: &[u8]) {
+    for (k, letter) in [reading.first, reading.second].iter().enumerate() {
+        septet(answer, k, *letter);
+        Meaning::LanguageLetter(u16::from(*letter)).put(answer);
     }
-    let end = before(out, at, 0, reading.first, LETTER);
-    let end = before(out, end, 1, reading.second, LETTER);
-    if ucs2 {
-        return spare(out, end, octets, 2);
+    if reading.alphabet == UCS2 {
+        spare(answer, octets, 2);
+    } else {
+        septet(answer, 2, CR);
+        Meaning::CrBehindLetters.put(answer);
     }
-    before(out, end, 2, 13, BEHIND)
-}
-
-// The septets from kept on, which are filling.
-fn dropped(out: &mut [u8], at: usize, service: usize, kept: usize) -> usize {
-    let numbers = [kept, if service == asked::OLD { 0 } else { 13 }];
-    if service == asked::USSD {
-        return septet(out, at, kept, 13);
-    }
-    tell::say(out, at, tell::PEOPLE, b"septets from # on $", &numbers)
 }
 
 // What stands behind the septets that are kept: filling, and the bits above the last septet of all.
-fn rest(out: &mut [u8], at: usize, service: usize, kept: usize, total: usize) -> usize {
-    let numbers = [service];
-    if total <= kept {
-        return at;
+fn dropped(answer: &mut Answer<'_>, service: Service, kept: usize) {
+    if service == Service::Ussd {
+        septet(answer, kept, CR);
+    } else {
+        answer.puts(&[
+            Value::Word(b"septets from "),
+            Value::Number(kept as u64),
+            Value::Word(b" on "),
+            Value::Octet(if service == Service::OldPage { 0 } else { CR }),
+        ]);
     }
-    let end = dropped(out, at, service, kept);
-    tell::say(
-        out,
-        end,
-        tell::PEOPLE,
-        b": {|closing CR, page filling|the CR that was added to fill the last octet|closing zero, page filling}, dropped/",
-        &numbers,
-    )
+    answer.put(Value::Word(b": "));
+    answer.put(Value::Word(match service {
+        Service::ShortMessage => b"",
+        Service::Broadcast => b"closing CR, page filling",
+        Service::Ussd => b"the CR that was added to fill the last octet",
+        Service::OldPage => b"closing zero, page filling",
+    }));
+    answer.put(Value::Word(b", dropped\n"));
 }
 
 // The bits above the last of n septets.
-fn spare(out: &mut [u8], at: usize, octets: &[u8], n: usize) -> usize {
-    let j = n % 200 * 7 / 8;
-    let low = n % 200 * 7 % 8;
-    if octets.len() <= j {
-        return put(out, at, b"no spare bits\n");
+fn spare(answer: &mut Answer<'_>, octets: &[u8], n: usize) {
+    let place = place_of(n);
+    match octets.get(place.octet) {
+        Some(octet) => {
+            answer.put(Value::Word(b"spare"));
+            bits(answer, place.octet, 7, place.bit);
+            answer.puts(&[
+                Value::Word(b" "),
+                Value::Bits(*octet, 8 - place.bit),
+                Value::Word(b"\n"),
+            ]);
+        }
+        None => answer.put(Value::Word(b"no spare bits\n")),
     }
-    let numbers = [wide(octets[j]) % 256 * 16 + (8 - low)];
-    let end = put(out, at, b"spare");
-    let end = place(out, end, j, 7, low);
-    tell::say(out, end, tell::PEOPLE, b" !/", &numbers)
 }
 
 // The units, where so many octets hold them; letters take the place of one more in front.
-fn units(out: &mut [u8], at: usize, list: &[u16], octets: usize, lettered: bool) -> usize {
-    let from = if lettered { 1 } else { 0 };
-    let mut end = at;
-    for i in 0..list.len() {
-        let one = [list[i]];
-        let j = i % 200 + from % 2;
-        let numbers = [i, j * 2, j * 2 + 1];
-        end = tell::tell(
-            out,
-            end,
-            tell::PEOPLE,
-            b"unit # % octets #, #",
-            &numbers,
-            b"",
-            &one,
-        );
-        end = meaning(out, end, 0, list[i]);
+fn units(answer: &mut Answer<'_>, list: &[u16], octets: usize, lettered: bool) {
+    let from = u64::from(lettered);
+    for (i, (at, unit)) in (from..).zip(list).enumerate() {
+        answer.puts(&[
+            Value::Word(b"unit "),
+            Value::Number(i as u64),
+            Value::Word(b" "),
+            Value::Units(&[*unit]),
+            Value::Word(b" octets "),
+            Value::Number(at.saturating_mul(2)),
+            Value::Word(b", "),
+            Value::Number(at.saturating_mul(2).saturating_add(1)),
+        ]);
+        Meaning::Letter(*unit).put(answer);
     }
     if list.len() < octets / 2 {
-        let numbers = [list.len()];
-        return tell::say(
-            out,
-            end,
-            tell::PEOPLE,
-            b"units from # on 000D: closing CR, page filling, dropped/",
-            &numbers,
-        );
+        answer.puts(&[
+            Value::Word(b"units from "),
+            Value::Number(list.len() as u64),
+            Value::Word(b" on 000D: closing CR, page filling, dropped\n"),
+        ]);
     }
-    end
 }
 
 pub(crate) fn message(
-    out: &mut [u8],
-    at: usize,
-    job: Job,
+    answer: &mut Answer<'_>,
+    job: &Job<'_>,
     reading: ReadingNumbers,
     list: &[u8],
     text: &[u16],
-) -> usize {
-    let ucs2 = reading.alphabet == 2;
+) {
+    let ucs2 = reading.alphabet == UCS2;
     let lettered = reading.first != 0;
-    let numbers = [if ucs2 { 1 } else { 0 }];
-    let end = tell::say(out, at, tell::PEOPLE, b"alphabet {7-bit|UCS2}/", &numbers);
-    let end = octets(out, end, list);
-    let end = letters(out, end, reading, ucs2, list);
-    if ucs2 {
-        let room = if lettered { 80 } else { list.len() };
-        return units(out, end, text, room, lettered);
+    answer.put(Value::Word(if ucs2 {
+        b"alphabet UCS2\n"
+    } else {
+        b"alphabet 7-bit\n"
+    }));
+    octets(answer, list);
+    if lettered {
+        letters(answer, reading, list);
     }
-    packed(out, end, job, lettered, list, text)
+    if ucs2 {
+        units(
+            answer,
+            text,
+            if lettered { 80 } else { list.len() },
+            lettered,
+        );
+    } else {
+        packed(answer, job, lettered, list, text);
+    }
 }
 
 // The septets of a message, behind its letters. Where no text follows them, their CR is unpacked as filling.
-fn packed(out: &mut [u8], at: usize, job: Job, lettered: bool, list: &[u8], text: &[u16]) -> usize {
-    let mut unpacked = [0u8; 182];
-    let service = job.service;
-    let count = job.numbers[asked::COUNT];
-    let answer = wikuay::wikuay_unpack((service % 4) as u32, list, count, &mut unpacked);
+fn packed(answer: &mut Answer<'_>, job: &Job<'_>, lettered: bool, list: &[u8], text: &[u16]) {
+    // Fixed memory, since no heap is a rule of the project.
+    let mut buffer = [0u8; 182];
+    let unpacked = wikuay::wikuay_unpack(job.service.number(), list, job.count(), &mut buffer);
     let from = if lettered { 3 } else { 0 };
-    let kept = if answer.written < from {
-        from
-    } else {
-        answer.written
+    let kept = front(&buffer, unpacked.written.max(from));
+    septets(answer, kept, from, text, job.service == Service::OldPage);
+    let total = match job.service {
+        Service::ShortMessage => kept.len(),
+        Service::Ussd => list.len().saturating_add(list.len() / 7),
+        Service::Broadcast | Service::OldPage => 93,
     };
-    let n = tell::within(kept, &unpacked);
-    let end = septets(out, at, &unpacked[..n], from, text, service == asked::OLD);
-    let total = if service == asked::SMS {
-        n
-    } else if service == asked::USSD {
-        list.len() % 200 * 8 / 7
-    } else {
-        93
-    };
-    let end = rest(out, end, service, n, total);
-    spare(out, end, list, total)
+    if kept.len() < total {
+        dropped(answer, job.service, kept.len());
+    }
+    spare(answer, list, total);
 }

@@ -1,44 +1,10 @@
 // The help texts: one for each command, and one for all.
-use printed::put;
+use crate::verb::Verb;
 
-// The commands in the order of their numbers, and how many there are.
-pub(crate) const WRITE: usize = 0;
-
-pub(crate) const READ: usize = 1;
-
-pub(crate) const CODING: usize = 2;
-
-pub(crate) const EXPLAIN: usize = 3;
-
-pub(crate) const PACK: usize = 4;
-
-pub(crate) const UNPACK: usize = 5;
-
-pub(crate) const ROOM: usize = 6;
-
-pub(crate) const PAGES: usize = 7;
-
-pub(crate) const JOIN: usize = 8;
-
-pub(crate) const HEADER: usize = 9;
-
-pub(crate) const PARTS: usize = 10;
-
-pub(crate) const PART: usize = 11;
-
-pub(crate) const JOIN_PARTS: usize = 12;
-
-pub(crate) const LINES: usize = 13;
-
-pub(crate) const HELP: usize = 14;
-
-pub(crate) const VERBS: usize = 15;
-
-pub(crate) fn help(out: &mut [u8], at: usize, verb: usize) -> usize {
+// The text on a command, or on all of them.
+pub(crate) fn on(verb: Option<Verb>) -> &'static [u8] {
     match verb {
-        WRITE => put(
-            out,
-            at,
+        Some(Verb::Write) =>
             b"usage: wikuay write SERVICE TEXT [--coding OCTET] [--letters LL] [--room N] [--json]
        wikuay write SERVICE --units UNITS [--coding OCTET] [--letters LL] [--room N] [--json]
 Writes a text as a message: its octets, its length count and its data coding octet.
@@ -57,10 +23,7 @@ wikuay write cbs --coding 10 --letters en Hello
   count 0
   coding 10
 ",
-        ),
-        READ => put(
-            out,
-            at,
+        Some(Verb::Read) =>
             b"usage: wikuay read SERVICE OCTETS [--coding OCTET] [--count N] [--json]
 Reads the octets of a message: the units of its text in hexadecimal, the letters of the language where a page has them, and the text.
   OCTETS           two hexadecimal digits each; - reads them from standard input
@@ -71,11 +34,7 @@ wikuay read sms --count 5 C8329BFD06
   units 00480065006C006C006F
   text Hello
 ",
-        ),
-        CODING => put(
-            out,
-            at,
-            b"usage: wikuay coding SERVICE OCTET [--json]
+        Some(Verb::Coding) => b"usage: wikuay coding SERVICE OCTET [--json]
 Says what a data coding octet means, whether such a message holds text, and as which octet it is written.
   OCTET            two hexadecimal digits; - reads them from standard input
   --json           answer with one object of JSON
@@ -92,11 +51,7 @@ wikuay coding sms F5
   text refused 2 at 0: the coding holds no text
   written 15
 ",
-        ),
-        EXPLAIN => put(
-            out,
-            at,
-            b"usage: wikuay explain SERVICE OCTETS [--coding OCTET] [--count N]
+        Some(Verb::Explain) => b"usage: wikuay explain SERVICE OCTETS [--coding OCTET] [--count N]
 Draws a message: its octets, where each septet or unit lies in them, what it means, and the text.
   OCTETS           two hexadecimal digits each; - reads them from standard input
   --coding OCTET   the data coding octet; if not given, 00 for sms and old, 0F for cbs and ussd
@@ -110,11 +65,7 @@ wikuay explain sms --count 2 9B32
   spare octet 1 bits 7..6 00
   text \\u20AC
 ",
-        ),
-        PACK => put(
-            out,
-            at,
-            b"usage: wikuay pack SERVICE SEPTETS [--json]
+        Some(Verb::Pack) => b"usage: wikuay pack SERVICE SEPTETS [--json]
 Packs septets, 00 to 7F, into octets, with the filling and the CR that the service adds.
   SEPTETS          two hexadecimal digits each; - reads them from standard input
   --json           answer with one object of JSON
@@ -122,11 +73,7 @@ wikuay pack ussd 00 00 00 00 00 00 00
   octets 0000000000001A
   count 0
 ",
-        ),
-        UNPACK => put(
-            out,
-            at,
-            b"usage: wikuay unpack SERVICE OCTETS [--count N] [--json]
+        Some(Verb::Unpack) => b"usage: wikuay unpack SERVICE OCTETS [--count N] [--json]
 Unpacks octets into septets, with filling dropped.
   OCTETS           two hexadecimal digits each; - reads them from standard input
   --count N        the length count that travels with a short message
@@ -134,11 +81,7 @@ Unpacks octets into septets, with filling dropped.
 wikuay unpack sms --count 2 4121
   septets 4142
 ",
-        ),
-        ROOM => put(
-            out,
-            at,
-            b"usage: wikuay room SERVICE TEXT [--json]
+        Some(Verb::Room) => b"usage: wikuay room SERVICE TEXT [--json]
        wikuay room SERVICE --units UNITS [--json]
 Shows how many septets remain after each key of a text, below zero where the text is over. A key that is refused changes nothing.
   TEXT             plain ASCII, typed as it is; - reads it from standard input, without its closing line end
@@ -151,10 +94,7 @@ wikuay room sms 'ok['
   key 2 k 158
   key 3 [ 156
 ",
-        ),
-        PAGES => put(
-            out,
-            at,
+        Some(Verb::Pages) =>
             b"usage: wikuay pages TEXT [--sequence N] [--identifier N] [--coding OCTET] [--letters LL] [--page K] [--room N] [--json]
        wikuay pages --units UNITS [--sequence N] [--identifier N] [--coding OCTET] [--letters LL] [--page K] [--room N] [--json]
 Writes a text as a broadcast message of 1 to 15 pages: how many they are, and a block of 88 octets for each.
@@ -171,11 +111,7 @@ wikuay pages --sequence 1 --identifier 50 'Snow from six'
   pages 1
   page 1 000100320F1153F7FB0E32CBDF6DD03C8D6F341A8D46A3D168341A8D46A3D168341A8D46A3D168341A8D46A3D168341A8D46A3D168341A8D46A3D168341A8D46A3D168341A8D46A3D168341A8D46A3D168341A8D46A3D100
 ",
-        ),
-        JOIN => put(
-            out,
-            at,
-            b"usage: wikuay join BLOCKS [--json]
+        Some(Verb::Join) => b"usage: wikuay join BLOCKS [--json]
 Joins the pages of a broadcast message, in any order: the units of its text in hexadecimal, the text, and what its blocks say of it.
   BLOCKS           88 octets for each page, two hexadecimal digits each; - reads them from standard input
   --json           answer with one object of JSON
@@ -186,11 +122,7 @@ wikuay join 000100320F1153F7FB0E32CBDF6DD03C8D6F341A8D46A3D168341A8D46A3D168341A
   identifier 50
   pages 1
 ",
-        ),
-        HEADER => put(
-            out,
-            at,
-            b"usage: wikuay header BLOCK [--json]
+        Some(Verb::Header) => b"usage: wikuay header BLOCK [--json]
 Reads what stands in a block in front of its text: the sequence number, the message identifier, the coding octet, which page it is and of how many.
   BLOCK            88 octets, two hexadecimal digits each; - reads them from standard input
   --json           answer with one object of JSON
@@ -201,10 +133,7 @@ wikuay header 000100320F1153F7FB0E32CBDF6DD03C8D6F341A8D46A3D168341A8D46A3D16834
   page 1
   pages 1
 ",
-        ),
-        PARTS => put(
-            out,
-            at,
+        Some(Verb::Parts) =>
             b"usage: wikuay parts TEXT [--reference N] [--coding OCTET] [--part K] [--room N] [--json]
        wikuay parts --units UNITS [--reference N] [--coding OCTET] [--part K] [--room N] [--json]
 Writes a text as a long short message of 1 to 255 parts: how many they are, whether a user data header stands in front of each, the
@@ -223,10 +152,7 @@ wikuay parts --coding 08 Hello
   count 1 10
   part 1 00480065006C006C006F
 ",
-        ),
-        PART => put(
-            out,
-            at,
+        Some(Verb::Part) =>
             b"usage: wikuay part OCTETS --count N [--mark M] [--coding OCTET] [--json]
 Reads one part of a long short message: the units of its text in hexadecimal, the text, and the numbers of the part, where its header has them.
   OCTETS           two hexadecimal digits each; - reads them from standard input
@@ -241,10 +167,7 @@ wikuay part --count 10 050003050201906536
   part 1
   parts 2
 ",
-        ),
-        JOIN_PARTS => put(
-            out,
-            at,
+        Some(Verb::JoinParts) =>
             b"usage: wikuay join-parts PARTS --counts N,N.. [--coding OCTET] [--json]
 Joins the parts of a long short message, in any order: the units of its text in hexadecimal, the text, the reference, and how many parts there are.
   PARTS            the octets of the parts, two hexadecimal digits each; - reads them from standard input; at most 8192 digits
@@ -257,11 +180,7 @@ wikuay join-parts --counts 9,10 050003050202D86F 050003050201906536
   reference 5
   parts 2
 ",
-        ),
-        LINES => put(
-            out,
-            at,
-            b"usage: wikuay lines [--json]
+        Some(Verb::Lines) => b"usage: wikuay lines [--json]
 Reads one request a line from standard input, as it is typed behind wikuay: write, read, coding, pack, unpack, room, pages, join, header,
 parts, part or join-parts.
 Each is answered on one line, in order, with the number of its line. An empty line is passed by.
@@ -270,17 +189,8 @@ The text of write, room, pages or parts is the rest of its line as it is; option
 echo 'write sms Hello' | wikuay lines
   1 octets C8329BFD06 count 5 coding 00
 ",
-        ),
-        _ => general(out, at),
-    }
-}
-
-// On all commands; two texts, since the check of one so long is dear.
-fn general(out: &mut [u8], at: usize) -> usize {
-    let end = put(
-        out,
-        at,
-        b"usage: wikuay write SERVICE TEXT        a typed text into octets
+        Some(Verb::Help) | None =>
+            b"usage: wikuay write SERVICE TEXT        a typed text into octets
        wikuay read SERVICE OCTETS       octets into text
        wikuay coding SERVICE OCTET      what a data coding octet says
        wikuay explain SERVICE OCTETS    a message drawn, septet by septet
@@ -296,12 +206,7 @@ fn general(out: &mut [u8], at: usize) -> usize {
        wikuay lines                     many requests, one a line
        wikuay help COMMAND              more on a command, with its options and an example
        wikuay --version                 the version
-",
-    );
-    put(
-        out,
-        end,
-        b"SERVICE is sms (a short message), cbs (a broadcast page), ussd or old (a page of 1991, read only).
+SERVICE is sms (a short message), cbs (a broadcast page), ussd or old (a page of 1991, read only).
 Octets and septets are typed as two hexadecimal digits each, units as four, in one word or several; colons, spaces and 0x may part them.
 - in the place of the text or of the octets reads it from standard input. At most 8192 octets are typed or read.
 An option stands anywhere, as --count 5 or as --count=5; behind -- everything is a word.
@@ -312,5 +217,5 @@ wikuay write sms Hello
   count 5
   coding 00
 ",
-    )
+    }
 }

@@ -1,155 +1,119 @@
 // The room left while a text is typed: the number after each of its keys.
 use crate::asked::Job;
-use crate::{asked, say, tell, verbs};
+use crate::digits::MOST;
+use crate::refusal::Refusal;
+use crate::say;
+use crate::tell::{Answer, Layout, Value};
 use wikuay::meters;
 use wikuay::meters::{MeterAnswer, MeterNumbers};
 
-// The keys that are no letters: a backspace takes the last unit back, and a cancel clears. The alphabet has neither.
-const BACK: u16 = 0x0008;
+// The keys of a text, of which two are no letters, and the alphabet has neither.
+#[derive(Clone, Copy, PartialEq, Eq)]
+enum Key {
+    // Takes the last unit back.
+    Back,
+    Clear,
+    Letter(u16),
+}
 
-const CLEAR: u16 = 0x0018;
+impl From<u16> for Key {
+    fn from(unit: u16) -> Key {
+        match unit {
+            0x0008 => Key::Back,
+            0x0018 => Key::Clear,
+            _ => Key::Letter(unit),
+        }
+    }
+}
 
-// How far the keys are told: where that ends, the record, and how many units there are.
-#[derive(Clone, Copy)]
-struct Typing {
-    end: usize,
-    meter: MeterNumbers,
+// The text so far, in fixed memory, since no heap is a rule of the project; and its meter.
+#[derive(Drop)]
+struct Typing<'a> {
+    units: &'a mut [u16],
     len: usize,
+    meter: MeterNumbers,
+}
+
+impl Typing<'_> {
+    // One more key. Where there is no unit, no key takes it back; one that is refused changes nothing.
+    fn press(&mut self, key: Key) -> MeterAnswer {
+        let answer = match key {
+            Key::Clear => meters::wikuay_meter_cleared(self.meter),
+            Key::Letter(unit) => meters::wikuay_unit_added(self.meter, unit),
+            Key::Back => match self.last() {
+                Some(unit) => meters::wikuay_unit_taken_back(self.meter, unit),
+                None => meters::wikuay_room_left(self.meter),
+            },
+        };
+        self.meter = answer.meter;
+        if answer.refusal == 0 {
+            self.apply(key);
+        }
+        answer
+    }
+
+    fn last(&self) -> Option<u16> {
+        self.units.get(..self.len)?.last().copied()
+    }
+
+    fn apply(&mut self, key: Key) {
+        match key {
+            Key::Clear => self.len = 0,
+            Key::Back => self.len = self.len.saturating_sub(1),
+            Key::Letter(unit) => {
+                if let Some(place) = self.units.get_mut(self.len) {
+                    *place = unit;
+                    self.len += 1;
+                }
+            }
+        }
+    }
 }
 
 // The keys of a text can take more room than the buffer has: what it holds goes out before it is full. Something is told behind it, which
 // closes the answer.
-fn passed_on(rt: &impl Print, out: &[u8], end: usize) -> usize {
-    if end < 32768 {
-        return end;
+fn pass_on(rt: &impl Print, answer: &mut Answer<'_>) {
+    if 32768 <= answer.sheet.end {
+        say(rt, answer.sheet.written());
+        answer.sheet.end = 0;
     }
-    let n = tell::within(end, out);
-    say(rt, &out[..n]);
-    0
-}
-
-// The last unit of a text; where there is none, no key takes it back.
-fn last(text: &[u16], len: usize) -> u16 {
-    if len == 0 {
-        return 0;
-    }
-    if text.len() < len {
-        return 0;
-    }
-    text[len - 1]
-}
-
-fn pressed(meter: MeterNumbers, unit: u16, len: usize, last: u16) -> MeterAnswer {
-    if unit == CLEAR {
-        return meters::wikuay_meter_cleared(meter);
-    }
-    if unit != BACK {
-        return meters::wikuay_unit_added(meter, unit);
-    }
-    if len == 0 {
-        return meters::wikuay_room_left(meter);
-    }
-    meters::wikuay_unit_taken_back(meter, last)
-}
-
-// The text after a key that went: how many units there are.
-fn typed_on(text: &mut [u16], len: usize, unit: u16) -> usize {
-    if unit == CLEAR {
-        return 0;
-    }
-    if unit == BACK {
-        return if len == 0 { 0 } else { len - 1 };
-    }
-    if len < text.len() {
-        text[len] = unit;
-        return len + 1;
-    }
-    len
 }
 
 // The number after a key, and the refusal of one that did not go.
-fn told(
-    out: &mut [u8],
-    at: usize,
-    layout: usize,
-    number: usize,
-    unit: u16,
-    answer: MeterAnswer,
-) -> usize {
-    let one = [unit];
-    let left = answer.left;
-    let below = if left < 0 { 1 } else { 0 };
-    let numbers = [number, layout, below, printed::magnitude(left) as usize];
-    let end = tell::tell(
-        out,
-        at,
-        layout,
-        b"`key #`<{~ |~ |}{|-}#/",
-        &numbers,
-        b"",
-        &one,
-    );
-    if answer.refusal == 0 {
-        return end;
+fn tell(answer: &mut Answer<'_>, number: usize, unit: u16, pressed: MeterAnswer) {
+    let key = Value::Word(b"key ");
+    let number = Value::Number(number as u64);
+    answer.name(&[key, number]);
+    if answer.layout != Layout::Json {
+        answer.puts(&[Value::Text(&[unit]), Value::Word(b" ")]);
     }
-    let name = tell::say(out, end, layout, b"`key # is`<`", &numbers);
-    verbs::refused(out, name, layout, true, answer.refusal, answer.position)
-}
-
-// One more key.
-fn key(
-    rt: &impl Print,
-    out: &mut [u8],
-    typing: Typing,
-    layout: usize,
-    number: usize,
-    unit: u16,
-    text: &mut [u16],
-) -> Typing {
-    let from = passed_on(rt, out, typing.end);
-    let len = typing.len;
-    let before = typing.meter;
-    let answer = pressed(before, unit, len, last(text, len));
-    let after = answer.meter;
-    let end = told(out, from, layout, number, unit, answer);
-    Typing {
-        end: end,
-        meter: after,
-        len: if answer.refusal == 0 {
-            typed_on(text, len, unit)
-        } else {
-            len
-        },
+    if pressed.left < 0 {
+        answer.put(Value::Word(b"-"));
     }
-}
-
-// All keys, one after the other; answers where they end.
-fn keys(
-    rt: &impl Print,
-    out: &mut [u8],
-    begun: Typing,
-    layout: usize,
-    units: &[u16],
-    text: &mut [u16],
-) -> usize {
-    let mut typing = begun;
-    for i in 0..units.len() {
-        typing = key(rt, out, typing, layout, tell::more(i), units[i], text);
+    answer.put(Value::Number(printed::magnitude(pressed.left)));
+    answer.end();
+    if let Some(refusal) = Refusal::of(pressed.refusal, pressed.position) {
+        answer.name(&[key, number, Value::Word(b" is")]);
+        answer.quote();
+        refusal.put(answer);
+        answer.quote();
+        answer.end();
     }
-    typing.end
 }
 
 // The size of the service, and the number after each key.
-pub(crate) fn room(rt: &impl Print, out: &mut [u8], at: usize, job: Job, units: &[u16]) -> usize {
-    let mut text = [0u16; asked::MOST];
-    let answer = meters::wikuay_new_meter((job.service % 4) as u32);
-    let meter = answer.meter;
-    let numbers = [printed::magnitude(answer.left) as usize];
-    let end = tell::say(out, at, job.layout, b"`size`<#/", &numbers);
-    let typing = Typing {
-        end: end,
-        meter: meter,
+pub(crate) fn room(rt: &impl Print, answer: &mut Answer<'_>, job: &Job<'_>, units: &[u16]) {
+    let mut text = [0u16; MOST];
+    let fresh = meters::wikuay_new_meter(job.service.number());
+    answer.fact(b"size", Value::Number(printed::magnitude(fresh.left)));
+    let mut typing = Typing {
+        units: &mut text,
         len: 0,
+        meter: fresh.meter,
     };
-    keys(rt, out, typing, job.layout, units, &mut text)
+    for (number, unit) in (1..).zip(units) {
+        pass_on(rt, answer);
+        let pressed = typing.press(Key::from(*unit));
+        tell(answer, number, *unit, pressed);
+    }
 }

@@ -1,522 +1,298 @@
 // The commands on a message or a page: each calls the library and tells its answer.
 use crate::asked::Job;
-use crate::{asked, broadcast, draw, fault, help, long_text, room, tell};
-use answers::{Answer, ReadAnswer};
+use crate::digits::MOST;
+use crate::fault::Fault;
+use crate::refusal::{Refusal, Refused, Shown, judge, judge_text};
+use crate::tell::{Answer, Value, front};
+use crate::verb::Verb;
+use crate::{broadcast, digits, draw, long_text, room};
 use names::ReadingNumbers;
-use printed::put;
-
-// Tells a refusal. Inside of a fact it is words in every layout.
-pub(crate) fn refused(
-    out: &mut [u8],
-    at: usize,
-    layout: usize,
-    inside: bool,
-    refusal: u32,
-    position: usize,
-) -> usize {
-    let quoted = if layout == tell::JSON && !inside {
-        1
-    } else {
-        0
-    };
-    let numbers = [quoted, refusal as usize, position, refusal as usize];
-    tell::say(
-        out,
-        at,
-        layout,
-        b"{refused # at #: |`refused`<#/`position`<#/`meaning`<`}{|
-the text is compressed|
-the coding holds no text|
-the coding has the prefix mark or the header mark|
-the octets do not fit the service or the count|
-the text is over the service's size|
-a unit is not in the alphabet|
-the buffer is too short|
-the reading cannot be written under this service|
-a septet is 128 or more|
-the pages or parts are not those of one message|
-the language letters are wrong|
-the user data header is wrong}`/",
-        &numbers,
-    )
-}
-
-// How what was refused is shown.
-const OF_CODING: usize = 0;
-
-pub(crate) const OF_OCTETS: usize = 1;
-
-const OF_UNITS: usize = 2;
-
-const OF_TEXT: usize = 3;
-
-pub(crate) const OF_PAGE: usize = 4;
-
-const OF_SEPTETS: usize = 5;
-
-const OF_LETTERS: usize = 6;
-
-pub(crate) const OF_PART: usize = 7;
-
-fn shown(out: &mut [u8], at: usize, kind: usize, octets: &[u8], units: &[u16]) -> usize {
-    let numbers = [kind];
-    tell::tell(
-        out,
-        at,
-        tell::PEOPLE,
-        b"{coding @|octets @|units %|text ~|page ~|septets @|letters ~|part ~}",
-        &numbers,
-        octets,
-        units,
-    )
-}
-
-// What was refused, and a caret under the place.
-fn pointed(
-    out: &mut [u8],
-    at: usize,
-    kind: usize,
-    position: usize,
-    octets: &[u8],
-    units: &[u16],
-) -> usize {
-    let end = shown(out, at, kind, octets, units);
-    let start = put(out, end, b"\n");
-    let n = tell::within(position, octets);
-    let k = tell::within_units(position, units);
-    let place = shown(out, start, kind, &octets[..n], &units[..k]);
-    tell::blank(out, start, place);
-    put(out, place, b"^\n")
-}
-
-// A refusal, with what was refused where a person reads it. Of a message 1, 2, 3 and 8 are of its coding octet.
-pub(crate) fn refuse(
-    out: &mut [u8],
-    at: usize,
-    job: Job,
-    kind: usize,
-    refusal: u32,
-    position: usize,
-    octets: &[u8],
-    units: &[u16],
-) -> usize {
-    let end = refused(out, at, job.layout, false, refusal, position);
-    let one = [job.coding];
-    if job.layout != tell::PEOPLE {
-        end
-    } else if kind < OF_SEPTETS && (refusal < 4 || refusal == 8) {
-        pointed(out, end, OF_CODING, 0, &one, units)
-    } else {
-        pointed(out, end, kind, position, octets, units)
-    }
-}
-
-// A page or a part that the message lacks is shown by its number.
-pub(crate) fn refuse_number(
-    out: &mut [u8],
-    at: usize,
-    job: Job,
-    kind: usize,
-    number: usize,
-) -> usize {
-    let mut digits = [0u8; 20];
-    let mut shown = [0u16; 20];
-    let n = io::decimal(number as u64, &mut digits);
-    let k = tell::within_units(asked::widen(&digits[..n], &mut shown), &shown);
-    refuse(out, at, job, kind, 10, 0, b"", &shown[..k])
-}
-
-// A refusal of a text, which is shown as it was typed. 11 is of its letters, and so is 8 where letters are given.
-pub(crate) fn refuse_text(
-    out: &mut [u8],
-    at: usize,
-    job: Job,
-    refusal: u32,
-    position: usize,
-    units: &[u16],
-) -> usize {
-    let letters = job.letters;
-    let given = job.gives(asked::LETTERS);
-    let n = tell::within_units(if given { 2 } else { 0 }, &letters);
-    if refusal == 11 || (given && refusal == 8) {
-        return refuse(
-            out,
-            at,
-            job,
-            OF_LETTERS,
-            refusal,
-            position,
-            b"",
-            &letters[..n],
-        );
-    }
-    let kind = if job.gives(asked::UNITS) {
-        OF_UNITS
-    } else {
-        OF_TEXT
-    };
-    refuse(out, at, job, kind, refusal, position, b"", units)
-}
 
 // The reading of a coding octet with the letters that are given.
-pub(crate) fn lettered(job: Job, reading: ReadingNumbers) -> ReadingNumbers {
-    let mut next = reading;
-    next.first = (job.letters[0] % 256) as u8;
-    next.second = (job.letters[1] % 256) as u8;
-    next
-}
-
-// The call is lent the front of the buffer, as long as the room asked for.
-fn write_into(
-    service: u32,
-    reading: ReadingNumbers,
-    units: &[u16],
-    room: usize,
-    octets: &mut [u8],
-) -> Answer {
-    let n = tell::within(room, octets);
-    wikuay::wikuay_write_message(service, reading, units, &mut octets[..n])
-}
-
-fn write(out: &mut [u8], at: usize, job: Job, units: &[u16]) -> usize {
-    let mut octets = [0u8; 160];
-    let service = (job.service % 4) as u32;
-    let read = wikuay::wikuay_read_coding(service, job.coding);
-    let reading = lettered(job, read.reading);
-    if read.refusal != 0 {
-        return refuse_text(out, at, job, read.refusal, read.position, units);
+pub(crate) fn lettered(job: &Job<'_>, reading: ReadingNumbers) -> ReadingNumbers {
+    let [first, second] = job.options.letters.unwrap_or([0, 0]);
+    ReadingNumbers {
+        first,
+        second,
+        ..reading
     }
-    let answer = write_into(
+}
+
+fn write<'a>(answer: &mut Answer<'_>, job: &Job<'_>, units: &'a [u16]) -> Result<(), Refused<'a>> {
+    // Fixed memory, since no heap is a rule of the project.
+    let mut octets = [0u8; 160];
+    let service = job.service.number();
+    let read = wikuay::wikuay_read_coding(service, job.coding());
+    judge_text(read.refusal, read.position, job, units)?;
+    // The call is lent the front of the buffer, as long as the room asked for.
+    let room = job.room().min(octets.len());
+    let written = wikuay::wikuay_write_message(
         service,
-        reading,
+        lettered(job, read.reading),
         units,
-        job.numbers[asked::ROOM],
-        &mut octets,
+        &mut octets[..room],
     );
-    if answer.refusal != 0 {
-        return refuse_text(out, at, job, answer.refusal, answer.position, units);
-    }
-    let k = tell::within(answer.written, &octets);
-    let numbers = [answer.count as usize, answer.coding as usize];
-    tell::tell(
-        out,
-        at,
-        job.layout,
-        b"`octets`<`@`/`count`<#/`coding`<`$`/",
-        &numbers,
-        &octets[..k],
-        units,
-    )
+    judge_text(written.refusal, written.position, job, units)?;
+    answer.fact(b"octets", Value::Octets(front(&octets, written.written)));
+    answer.fact(b"count", Value::Number(u64::from(written.count)));
+    answer.fact(b"coding", Value::Octet(written.coding));
+    Ok(())
 }
 
-fn pack(out: &mut [u8], at: usize, job: Job, septets: &[u8]) -> usize {
+fn pack<'a>(answer: &mut Answer<'_>, job: &Job<'_>, septets: &'a [u8]) -> Result<(), Refused<'a>> {
+    // Fixed memory, since no heap is a rule of the project.
     let mut octets = [0u8; 160];
-    let none = [0u16; 1];
-    let answer = wikuay::wikuay_pack((job.service % 4) as u32, septets, &mut octets);
-    if answer.refusal != 0 {
-        return refuse(
-            out,
-            at,
-            job,
-            OF_SEPTETS,
-            answer.refusal,
-            answer.position,
-            septets,
-            &none,
-        );
-    }
-    let k = tell::within(answer.written, &octets);
-    let numbers = [answer.count as usize];
-    tell::tell(
-        out,
-        at,
-        job.layout,
-        b"`octets`<`@`/`count`<#/",
-        &numbers,
-        &octets[..k],
-        &none,
-    )
+    let packed = wikuay::wikuay_pack(job.service.number(), septets, &mut octets);
+    judge(
+        packed.refusal,
+        packed.position,
+        job.coding(),
+        Shown::Septets(septets),
+    )?;
+    answer.fact(b"octets", Value::Octets(front(&octets, packed.written)));
+    answer.fact(b"count", Value::Number(u64::from(packed.count)));
+    Ok(())
 }
 
-fn unpack(out: &mut [u8], at: usize, job: Job, octets: &[u8]) -> usize {
+fn unpack<'a>(answer: &mut Answer<'_>, job: &Job<'_>, octets: &'a [u8]) -> Result<(), Refused<'a>> {
+    // Fixed memory, since no heap is a rule of the project.
     let mut septets = [0u8; 182];
-    let none = [0u16; 1];
-    let count = job.numbers[asked::COUNT];
-    let answer = wikuay::wikuay_unpack((job.service % 4) as u32, octets, count, &mut septets);
-    if answer.refusal != 0 {
-        return refuse(
-            out,
-            at,
-            job,
-            OF_OCTETS,
-            answer.refusal,
-            answer.position,
-            octets,
-            &none,
-        );
-    }
-    let k = tell::within(answer.written, &septets);
-    let numbers = [0usize];
-    tell::tell(
-        out,
-        at,
-        job.layout,
-        b"`septets`<`@`/",
-        &numbers,
-        &septets[..k],
-        &none,
-    )
+    let unpacked = wikuay::wikuay_unpack(job.service.number(), octets, job.count(), &mut septets);
+    judge(
+        unpacked.refusal,
+        unpacked.position,
+        job.coding(),
+        Shown::Octets(octets),
+    )?;
+    answer.fact(b"septets", Value::Octets(front(&septets, unpacked.written)));
+    Ok(())
 }
 
-fn read(out: &mut [u8], at: usize, job: Job, octets: &[u8]) -> usize {
-    let mut units = [0u16; 182];
-    let numbers = [0usize];
-    let service = (job.service % 4) as u32;
-    let count = job.numbers[asked::COUNT];
-    let answer = wikuay::wikuay_read_message(service, job.coding, count, octets, &mut units);
-    let reading = answer.reading;
-    if answer.refusal != 0 {
-        return refuse(
-            out,
-            at,
-            job,
-            OF_OCTETS,
-            answer.refusal,
-            answer.position,
-            octets,
-            &units,
-        );
-    }
-    let k = tell::within_units(answer.written, &units);
-    let end = body(out, at, job, reading, octets, &units[..k]);
-    let end = letters(out, end, job.layout, reading);
-    tell::tell(
-        out,
-        end,
-        job.layout,
-        b"`text`<`~`/",
-        &numbers,
+// A message is read, or drawn.
+fn read<'a>(answer: &mut Answer<'_>, job: &Job<'_>, octets: &'a [u8]) -> Result<(), Refused<'a>> {
+    // Fixed memory, since no heap is a rule of the project.
+    let mut buffer = [0u16; 182];
+    let read = wikuay::wikuay_read_message(
+        job.service.number(),
+        job.coding(),
+        job.count(),
         octets,
-        &units[..k],
-    )
+        &mut buffer,
+    );
+    judge(
+        read.refusal,
+        read.position,
+        job.coding(),
+        Shown::Octets(octets),
+    )?;
+    let units = front(&buffer, read.written);
+    if job.verb == Verb::Explain {
+        draw::message(answer, job, read.reading, octets, units);
+    } else {
+        answer.fact(b"units", Value::Units(units));
+    }
+    if read.reading.first != 0 {
+        let letters = Value::Letters([read.reading.first, read.reading.second]);
+        answer.fact(b"letters", letters);
+    }
+    answer.fact(b"text", Value::Text(units));
+    Ok(())
 }
 
-// What stands before the letters and the text: the units, or the message drawn.
-fn body(
-    out: &mut [u8],
-    at: usize,
-    job: Job,
-    reading: ReadingNumbers,
-    octets: &[u8],
-    units: &[u16],
-) -> usize {
-    let numbers = [0usize];
-    if job.verb == help::READ {
-        return tell::tell(
-            out,
-            at,
-            job.layout,
-            b"`units`<`%`/",
-            &numbers,
-            octets,
-            units,
-        );
+// The words for the numbers of a reading, as the C interface gives them, in the order of the numbers.
+const ALPHABETS: [&[u8]; 5] = [b"7-bit", b"8-bit data", b"UCS2", b"WAP", b"I1"];
+
+const CLASSES: [&[u8]; 7] = [
+    b"none",
+    b"0",
+    b"1",
+    b"2",
+    b"3",
+    b"user-defined 1",
+    b"user-defined 2",
+];
+
+const LANGUAGES: [&[u8]; 21] = [
+    b"German",
+    b"English",
+    b"Italian",
+    b"French",
+    b"Spanish",
+    b"Dutch",
+    b"Swedish",
+    b"Danish",
+    b"Portuguese",
+    b"Finnish",
+    b"Norwegian",
+    b"Greek",
+    b"Turkish",
+    b"Hungarian",
+    b"Polish",
+    b"unspecified",
+    b"Czech",
+    b"Hebrew",
+    b"Arabic",
+    b"Russian",
+    b"Icelandic",
+];
+
+const FLAGS: [&[u8]; 2] = [b"no", b"yes"];
+
+// A notice is 0, or 16 or 32 with 8 where it is active and the number of its kind.
+const NOTICES: [&[u8]; 3] = [b"none", b"discard", b"store"];
+
+const ACTIVE: [&[u8]; 2] = [b", not active", b", active"];
+
+const KINDS: [&[u8]; 4] = [b", voicemail", b", fax", b", electronic mail", b", other"];
+
+const TEXTS: [&[u8]; 3] = [b"", b"7-bit", b"UCS2"];
+
+fn word_at(words: &[&'static [u8]], number: usize) -> &'static [u8] {
+    match words.get(number) {
+        Some(word) => word,
+        None => b"",
     }
-    draw::message(out, at, job, reading, octets, units)
 }
 
-// The letters of a reading, where it has any.
-fn letters(out: &mut [u8], at: usize, layout: usize, reading: ReadingNumbers) -> usize {
-    if reading.first == 0 {
-        return at;
-    }
-    let both = [reading.first as u16, reading.second as u16];
-    let numbers = [0usize];
-    tell::tell(out, at, layout, b"`letters`<`~`/", &numbers, b"", &both)
+fn flag(answer: &mut Answer<'_>, name: &[u8], number: u8) {
+    answer.fact(name, Value::Word(word_at(&FLAGS, usize::from(number))));
 }
 
 // What the numbers of a reading say, field by field.
-fn fields(out: &mut [u8], at: usize, layout: usize, answer: ReadAnswer) -> usize {
-    let reading = answer.reading;
-    let notice = reading.notice as usize;
-    let kind = if notice == 0 { 0 } else { 1 + notice % 4 };
-    let numbers = [
-        reading.alphabet as usize,
-        reading.compressed as usize,
-        reading.class as usize,
-        reading.language as usize,
-        reading.deletion as usize,
-        notice / 16,
-        notice / 8,
-        kind,
-        reading.prefix as usize,
-        reading.reserved as usize,
-        reading.header as usize,
-    ];
-    tell::say(
-        out,
-        at,
-        layout,
-        b"`alphabet`<`{7-bit|8-bit data|UCS2|WAP|I1}`/`compressed`<`{no|yes}`/`class`<`{none|0|1|2|3|user-defined 1|user-defined 2}`/`language`<`
-{German|English|Italian|French|Spanish|Dutch|Swedish|Danish|Portuguese|Finnish|Norwegian|Greek|Turkish|Hungarian|Polish|unspecified|Czech|Hebrew|Arabic|Russian|Icelandic}`/
-`deletion`<`{no|yes}`/`notice`<`{none|discard|store}{||, not active|, active|, not active|, active}{|, voicemail|, fax|, electronic mail|, other}`/
-`prefix`<`{no|yes}`/`reserved`<`{no|yes}`/`header`<`{no|yes}`/",
-        &numbers,
-    )
+fn fields(answer: &mut Answer<'_>, reading: ReadingNumbers) {
+    let alphabet = word_at(&ALPHABETS, usize::from(reading.alphabet));
+    answer.fact(b"alphabet", Value::Word(alphabet));
+    flag(answer, b"compressed", reading.compressed);
+    let class = word_at(&CLASSES, usize::from(reading.class));
+    answer.fact(b"class", Value::Word(class));
+    let language = word_at(&LANGUAGES, usize::from(reading.language));
+    answer.fact(b"language", Value::Word(language));
+    flag(answer, b"deletion", reading.deletion);
+    notice(answer, usize::from(reading.notice));
+    flag(answer, b"prefix", reading.prefix);
+    flag(answer, b"reserved", reading.reserved);
+    flag(answer, b"header", reading.header);
+}
+
+fn notice(answer: &mut Answer<'_>, number: usize) {
+    answer.name(&[Value::Word(b"notice")]);
+    answer.quote();
+    answer.put(Value::Word(word_at(&NOTICES, number / 16)));
+    if number != 0 {
+        answer.put(Value::Word(word_at(&ACTIVE, number / 8 % 2)));
+        answer.put(Value::Word(word_at(&KINDS, number % 4)));
+    }
+    answer.quote();
+    answer.end();
 }
 
 // What a coding octet says, whether that holds text, and the octet that it is written as.
-fn coding(out: &mut [u8], at: usize, job: Job, octet: u8) -> usize {
-    let none = [0u16; 1];
-    let one = [octet];
-    let layout = job.layout;
-    let service = (job.service % 4) as u32;
+fn coding<'a>(
+    answer: &mut Answer<'_>,
+    job: &Job<'_>,
+    octets: &'a [u8],
+    octet: u8,
+) -> Result<(), Refused<'a>> {
+    let service = job.service.number();
     let read = wikuay::wikuay_read_coding(service, octet);
-    if read.refusal != 0 {
-        let end = refused(out, at, layout, false, read.refusal, 0);
-        if layout != tell::PEOPLE {
-            return end;
-        }
-        return pointed(out, end, OF_CODING, 0, &one, &none);
-    }
-    let reading = read.reading;
-    let end = fields(out, at, layout, read);
-    uses(out, end, layout, service, reading)
+    judge(read.refusal, 0, octet, Shown::Octets(octets))?;
+    fields(answer, read.reading);
+    uses(answer, service, read.reading);
+    Ok(())
 }
 
-// Whether a reading holds text, and the octet that it is written as.
-fn uses(out: &mut [u8], at: usize, layout: usize, service: u32, reading: ReadingNumbers) -> usize {
+// Whether a reading holds text, and the octet that it is written as. A refusal is told in the place of the value.
+fn uses(answer: &mut Answer<'_>, service: u32, reading: ReadingNumbers) {
     let held = wikuay::wikuay_holds_text(reading);
+    answer.name(&[Value::Word(b"text")]);
+    answer.quote();
+    match Refusal::of(held.refusal, 0) {
+        None => answer.put(Value::Word(word_at(&TEXTS, held.holds as usize))),
+        Some(refusal) => refusal.put(answer),
+    }
+    answer.quote();
+    answer.end();
     let written = wikuay::wikuay_write_coding(service, reading);
-    let holds = [held.holds as usize];
-    let octet = [
-        if written.refusal == 0 { 0 } else { 1 },
-        written.coding as usize,
-    ];
-    let end = or_refused(
-        out,
-        at,
-        layout,
-        b"`text`<`{|7-bit|UCS2}",
-        &holds,
-        held.refusal,
-    );
-    or_refused(
-        out,
-        end,
-        layout,
-        b"`written`<`{$|}",
-        &octet,
-        written.refusal,
-    )
-}
-
-// A fact, with a refusal in the place of its value where there is one.
-fn or_refused(
-    out: &mut [u8],
-    at: usize,
-    layout: usize,
-    pattern: &[u8],
-    numbers: &[usize],
-    refusal: u32,
-) -> usize {
-    let end = tell::say(out, at, layout, pattern, numbers);
-    if refusal != 0 {
-        return refused(out, end, layout, true, refusal, 0);
+    answer.name(&[Value::Word(b"written")]);
+    answer.quote();
+    match Refusal::of(written.refusal, 0) {
+        None => answer.put(Value::Octet(written.coding)),
+        Some(refusal) => refusal.put(answer),
     }
-    tell::say(out, end, layout, b"`/", numbers)
+    answer.quote();
+    answer.end();
 }
 
-fn complain(out: &mut [u8], at: usize, job: Job, units: &[u16]) -> usize {
-    let n = tell::within_units(job.units, units);
-    let end = fault::say(out, at, job.layout, job.fault, job.shown, &units[..n]);
-    if job.layout != tell::PEOPLE {
-        return end;
-    }
-    help::help(out, end, job.verb)
-}
-
-// The octets that a text spells, and how many there are; 9999 where it spells none.
-fn octets_of(text: &[u8], octets: &mut [u8]) -> usize {
-    let mut digits = [0u8; asked::MOST];
-    let n = asked::clean(text, 1, &mut digits);
-    match typed::read_octets(&digits[..n], octets) {
-        Some(k) => k,
-        None => 9999,
-    }
-}
-
-fn on_octets(out: &mut [u8], at: usize, job: Job, text: &[u8], units: &mut [u16]) -> usize {
-    let mut octets = [0u8; 4096];
-    let n = octets_of(text, &mut octets);
-    let k = tell::within(n, &octets);
-    let verb = job.verb;
-    let fault = if k < n {
-        fault::OCTETS
-    } else if verb == help::CODING && k != 1 {
-        fault::CODING
-    } else if verb == help::HEADER && k != 88 {
-        fault::BLOCK
-    } else {
-        0
+// Answers a command that takes octets.
+pub(crate) fn on_octets<'a>(
+    answer: &mut Answer<'_>,
+    job: &Job<'_>,
+    text: &'a [u8],
+) -> Result<(), Fault<'a>> {
+    // Fixed memory, since no heap is a rule of the project.
+    let mut buffer = [0u8; MOST / 2];
+    let n = digits::octets_of(text, &mut buffer).ok_or(Fault::Octets(text))?;
+    let octets = front(&buffer, n);
+    let outcome = match job.verb {
+        Verb::Coding => match *octets {
+            [octet] => coding(answer, job, octets, octet),
+            _ => return Err(Fault::Coding(text)),
+        },
+        Verb::Header => match <[u8; 88]>::try_from(octets) {
+            Ok(octets) => {
+                broadcast::header(answer, octets);
+                Ok(())
+            }
+            Err(_) => return Err(Fault::Block(text)),
+        },
+        Verb::Pack => pack(answer, job, octets),
+        Verb::Unpack => unpack(answer, job, octets),
+        Verb::Join => broadcast::join(answer, octets),
+        Verb::Part => long_text::read(answer, job, octets),
+        Verb::JoinParts => long_text::join(answer, job, octets),
+        _ => read(answer, job, octets),
     };
-    if 0 < fault {
-        return complain(out, at, job.wrong(fault, text, units), units);
-    }
-    match verb {
-        help::CODING => coding(out, at, job, octets[0]),
-        help::PACK => pack(out, at, job, &octets[..k]),
-        help::UNPACK => unpack(out, at, job, &octets[..k]),
-        help::JOIN => broadcast::join(out, at, job, &octets[..k]),
-        help::HEADER => broadcast::header(out, at, job, &octets[..k]),
-        help::PART => long_text::read(out, at, job, &octets[..k]),
-        help::JOIN_PARTS => long_text::join_in(out, at, job, &octets[..k], units),
-        _ => read(out, at, job, &octets[..k]),
-    }
+    settle(answer, outcome);
+    Ok(())
 }
 
-// The units of a text that is written, and how many there are; 9999 where it cannot be typed so.
-fn units_of(job: Job, text: &[u8], units: &mut [u16]) -> usize {
-    if job.gives(asked::UNITS) {
-        return job.units;
-    }
-    if wide::first_wide(text) < text.len() {
-        return 9999;
-    }
-    asked::widen(text, units)
-}
-
-// The answer to a request.
-pub(crate) fn answer(
+// Answers a command that takes a text, whose units are stored unless they are given.
+pub(crate) fn on_text<'a>(
     rt: &impl Print,
-    out: &mut [u8],
-    at: usize,
-    job: Job,
+    answer: &mut Answer<'_>,
+    job: &Job<'_>,
     text: &[u8],
     units: &mut [u16],
-) -> usize {
-    if 0 < job.fault {
-        return complain(out, at, job, units);
+) -> Result<(), Fault<'a>> {
+    let n = match job.options.units {
+        Some(n) => n,
+        None => {
+            if !text.is_ascii() {
+                return Err(Fault::Ascii);
+            }
+            for (unit, c) in units.iter_mut().zip(text) {
+                *unit = u16::from(*c);
+            }
+            text.len()
+        }
+    };
+    let units = front(units, n);
+    let outcome = match job.verb {
+        Verb::Room => {
+            room::room(rt, answer, job, units);
+            Ok(())
+        }
+        Verb::Pages => broadcast::write(answer, job, units),
+        Verb::Parts => long_text::write(answer, job, units),
+        _ => write(answer, job, units),
+    };
+    settle(answer, outcome);
+    Ok(())
+}
+
+// Ends an answer: what was refused is told in its place.
+fn settle(answer: &mut Answer<'_>, outcome: Result<(), Refused<'_>>) {
+    if let Err(refused) = outcome {
+        refused.tell(answer);
     }
-    if job.verb == help::HELP {
-        return help::help(out, at, job.topic);
-    }
-    if !job.writes() {
-        return on_octets(out, at, job, text, units);
-    }
-    let n = units_of(job, text, units);
-    let k = tell::within_units(n, units);
-    if k < n {
-        return complain(out, at, job.fails(fault::ASCII, 0), units);
-    }
-    if job.verb == help::ROOM {
-        return room::room(rt, out, at, job, &units[..k]);
-    }
-    if job.verb == help::PAGES {
-        return broadcast::write(out, at, job, &units[..k]);
-    }
-    if job.verb == help::PARTS {
-        return long_text::write(out, at, job, &units[..k]);
-    }
-    write(out, at, job, &units[..k])
 }
