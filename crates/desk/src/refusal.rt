@@ -2,89 +2,111 @@
 use crate::asked::Job;
 use crate::tell::{Answer, Layout, Value, front};
 
-// The numbers of the C interface, which are told.
-const COMPRESSED: u32 = 1;
-
-const NO_TEXT: u32 = 2;
-
-const PREFIXED: u32 = 3;
-
-const LENGTH: u32 = 4;
-
-const SIZE: u32 = 5;
-
-const UNIT: u32 = 6;
-
-const BUFFER: u32 = 7;
-
-const UNWRITABLE: u32 = 8;
-
-const SEPTET: u32 = 9;
-
-const OTHER_MESSAGE: u32 = 10;
-
-const LETTERS: u32 = 11;
-
-const HEADER: u32 = 12;
-
-// A refusal by its number and its position, as the C interface hands them over.
-#[derive(Clone, Copy)]
-pub(crate) struct Refusal {
-    number: u32,
-    position: usize,
+// Why the library refuses, by the numbers of the C interface, which are told. The last two are not given yet.
+#[derive(Clone, Copy, PartialEq, Eq)]
+enum Reason {
+    Compressed = 1,
+    NoText = 2,
+    Prefixed = 3,
+    WrongLength = 4,
+    TooLong = 5,
+    Unlisted = 6,
+    NoRoom = 7,
+    Unwritable = 8,
+    NoSeptet = 9,
+    WrongPages = 10,
+    WrongLetters = 11,
+    WrongHeader = 12,
+    NoTable = 13,
+    IllFormed = 14,
 }
 
-impl Refusal {
-    // What a call of the library answers: 0 is no refusal.
-    pub(crate) fn of(number: u32, position: usize) -> Option<Refusal> {
-        if number == 0 {
-            None
-        } else {
-            Some(Refusal { number, position })
+impl Reason {
+    // 0 is none.
+    fn numbered(number: u32) -> Option<Reason> {
+        match number {
+            1 => Some(Reason::Compressed),
+            2 => Some(Reason::NoText),
+            3 => Some(Reason::Prefixed),
+            4 => Some(Reason::WrongLength),
+            5 => Some(Reason::TooLong),
+            6 => Some(Reason::Unlisted),
+            7 => Some(Reason::NoRoom),
+            8 => Some(Reason::Unwritable),
+            9 => Some(Reason::NoSeptet),
+            10 => Some(Reason::WrongPages),
+            11 => Some(Reason::WrongLetters),
+            12 => Some(Reason::WrongHeader),
+            13 => Some(Reason::NoTable),
+            14 => Some(Reason::IllFormed),
+            _ => None,
         }
     }
 
     fn meaning(self) -> &'static [u8] {
-        match self.number {
-            COMPRESSED => b"the text is compressed",
-            NO_TEXT => b"the coding holds no text",
-            PREFIXED => b"the coding has the prefix mark or the header mark",
-            LENGTH => b"the octets do not fit the service or the count",
-            SIZE => b"the text is over the service's size",
-            UNIT => b"a unit is not in the alphabet",
-            BUFFER => b"the buffer is too short",
-            UNWRITABLE => b"the reading cannot be written under this service",
-            SEPTET => b"a septet is 128 or more",
-            OTHER_MESSAGE => b"the pages or parts are not those of one message",
-            LETTERS => b"the language letters are wrong",
-            HEADER => b"the user data header is wrong",
-            _ => b"",
+        match self {
+            Reason::Compressed => b"the text is compressed",
+            Reason::NoText => b"the coding holds no text",
+            Reason::Prefixed => b"the coding has the prefix mark or the header mark",
+            Reason::WrongLength => b"the octets do not fit the service or the count",
+            Reason::TooLong => b"the text is over the service's size",
+            Reason::Unlisted => b"a unit is not in the alphabet",
+            Reason::NoRoom => b"the buffer is too short",
+            Reason::Unwritable => b"the reading cannot be written under this service",
+            Reason::NoSeptet => b"a septet is 128 or more",
+            Reason::WrongPages => b"the pages or parts are not those of one message",
+            Reason::WrongLetters => b"the language letters are wrong",
+            Reason::WrongHeader => b"the user data header is wrong",
+            Reason::NoTable | Reason::IllFormed => b"",
         }
     }
 
     // Whether it is of the coding octet, where a message is refused.
     fn is_of_coding(self) -> bool {
-        matches!(self.number, COMPRESSED | NO_TEXT | PREFIXED | UNWRITABLE)
+        matches!(
+            self,
+            Reason::Compressed | Reason::NoText | Reason::Prefixed | Reason::Unwritable
+        )
+    }
+}
+
+// A refusal, as a call of the library answers it.
+#[derive(Clone, Copy)]
+pub(crate) struct Refusal {
+    reason: Reason,
+    position: usize,
+}
+
+impl Refusal {
+    pub(crate) fn of(number: u32, position: usize) -> Option<Refusal> {
+        Some(Refusal {
+            reason: Reason::numbered(number)?,
+            position,
+        })
+    }
+
+    fn number(self) -> Value<'static> {
+        Value::Number(self.reason as u64)
     }
 
     // The refusal in words.
     pub(crate) fn put(self, answer: &mut Answer<'_>) {
         answer.puts(&[
             Value::Word(b"refused "),
-            Value::Number(u64::from(self.number)),
+            self.number(),
             Value::Word(b" at "),
             Value::Number(self.position as u64),
             Value::Word(b": "),
-            Value::Word(self.meaning()),
+            Value::Word(self.reason.meaning()),
         ]);
     }
 
     // The refusal as an answer of its own.
     fn tell(self, answer: &mut Answer<'_>) {
         if answer.layout == Layout::Json {
-            answer.fact(b"refused", Value::Number(u64::from(self.number)));
+            answer.fact(b"refused", self.number());
             answer.fact(b"position", Value::Number(self.position as u64));
-            answer.fact(b"meaning", Value::Word(self.meaning()));
+            answer.fact(b"meaning", Value::Word(self.reason.meaning()));
         } else {
             self.put(answer);
             answer.end();
@@ -101,7 +123,7 @@ pub(crate) enum Shown<'a> {
     Text(&'a [u16]),
     Page(u32),
     Septets(&'a [u8]),
-    // None are given.
+    // None, where none are given.
     Letters(Option<[u8; 2]>),
     Part(u32),
 }
@@ -182,7 +204,7 @@ pub(crate) fn judge<'a>(
     }
 }
 
-// What the library answers to a text, which is shown as it was typed.
+// What the library answers to a text, which is shown as it was typed, or its letters are.
 pub(crate) fn judge_text<'a>(
     number: u32,
     position: usize,
@@ -190,12 +212,16 @@ pub(crate) fn judge_text<'a>(
     units: &'a [u16],
 ) -> Result<(), Refused<'a>> {
     let letters = job.options.letters;
-    let shown = if number == LETTERS || (letters.is_some() && number == UNWRITABLE) {
-        Shown::Letters(letters)
-    } else if job.options.units.is_some() {
-        Shown::Units(units)
-    } else {
-        Shown::Text(units)
+    let shown = match Reason::numbered(number) {
+        Some(Reason::WrongLetters) => Shown::Letters(letters),
+        Some(Reason::Unwritable) if letters.is_some() => Shown::Letters(letters),
+        _ => {
+            if job.options.units.is_some() {
+                Shown::Units(units)
+            } else {
+                Shown::Text(units)
+            }
+        }
     };
     judge(number, position, job.coding(), shown)
 }
@@ -208,10 +234,10 @@ pub(crate) fn judge_one<'a>(
     units: &'a [u16],
     asked: Shown<'a>,
 ) -> Result<(), Refused<'a>> {
-    if number == OTHER_MESSAGE {
-        return judge(number, position, job.coding(), asked);
+    match Reason::numbered(number) {
+        Some(Reason::WrongPages) => judge(number, position, job.coding(), asked),
+        _ => judge_text(number, position, job, units),
     }
-    judge_text(number, position, job, units)
 }
 
 impl Refused<'_> {
@@ -222,7 +248,8 @@ impl Refused<'_> {
             return;
         }
         match self.shown {
-            Shown::Octets(_) | Shown::Units(_) | Shown::Text(_) if self.refusal.is_of_coding() => {
+            Shown::Octets(_) | Shown::Units(_) | Shown::Text(_)
+                if self.refusal.reason.is_of_coding() => {
                 Shown::Coding(self.coding).point(answer, 0);
             }
             shown => shown.point(answer, self.refusal.position),

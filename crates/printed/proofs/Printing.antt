@@ -1,15 +1,12 @@
--- Words put one behind the other are their joined word, put at once; and a word is put octet by octet.
+-- Words put one behind the other are their joined word, put at once; and a word is laid over what stands at its place.
 -- Assumes nothing.
 use mathlib.Core.Path.{◌≡◌, refl, sym, ap, ap₂, ◌∙◌}
-use mathlib.Core.Bool.{Bool, true, false}
-use borrow.Author.Tests.{ltb-true, ltb-false}
-use lib.Dec.{ltb}
 use mathlib.Core.List.{List, [], ◌∷◌, ◌++◌}
 use Prim.Native.Nat.{ℕ, zero, suc, ◌+◌, ◌-◌, ◌≤◌, ◌<◌, min}
-use native.Mathlib.Nat.{zero-min, min-zero, suc-min-suc, suc-sub-suc, sub-zero, zero-sub, suc-add, zero-add, add-zero, not-suc-le-zero, le_of_suc-le-suc, le_of_lt, min-eq_left, min-eq_right}
+use native.Mathlib.Nat.{zero-min, min-zero, suc-min-suc, suc-sub-suc, sub-zero, zero-sub, suc-add, zero-add, add-zero, not-suc-le-zero, le_of_suc-le-suc}
 use native.Mathlib.Numerals.{add-one}
 use native.Mathlib.Omega.{arith}
-use lib.ListN.{length, get_or, set, drop, length-append, drop_of_length-le}
+use lib.ListN.{length, get_or, take, drop, length-append}
 use lib.Seq.{drop-cons}
 use Rattle.printed.specs.Printing.{placed, end_of, octet_digits, unit_octets, unit_digits}
 
@@ -71,12 +68,6 @@ placed_past [] at xs h = refl
 placed_past (y ∷ out) zero xs h = absurd (not-suc-le-zero h)
 placed_past (y ∷ out) (suc at) xs h = ap (λ (r : List ℕ). y ∷ r) (placed_past out at xs (le_of_suc-le-suc h))
 
-placed-step : (out : List ℕ) (at x : ℕ) (xs : List ℕ) → at < length out → placed (set out at x) (suc at) xs ≡ placed out at (x ∷ xs)
-unfolding placed
-placed-step [] at x xs h = absurd (not-suc-le-zero h)
-placed-step (y ∷ out) zero x xs h = refl
-placed-step (y ∷ out) (suc at) x xs h = ap (λ (r : List ℕ). y ∷ r) (placed-step out at x xs (le_of_suc-le-suc h))
-
 pub placed-more : (out : List ℕ) (at : ℕ) (xs ys : List ℕ) → placed (placed out at xs) (end_of (length out) at (length xs)) ys ≡ placed out at (xs ++ ys)
 unfolding placed
 placed-more [] at xs ys = refl
@@ -88,61 +79,47 @@ placed-more (y ∷ out) (suc at) xs ys =
     ap (λ (k : ℕ). placed (y ∷ placed out at xs) k ys) (end_later (length out) at (length xs))
     ∙ ap (λ (r : List ℕ). y ∷ r) (placed-more out at xs ys)
 
--- ---- the loop that puts a word: what is left of it, put behind what is done
+-- ---- a word that is put: what stands in front of its place, as much of it as there is room for, and what stands behind its end
 
-pub placed-begun : (out word : List ℕ) (at : ℕ) → placed out (at + 0) (drop 0 word) ≡ placed out at word
-placed-begun out word at = ap (λ (k : ℕ). placed out k word) (add-zero at)
-
-pub placed-turn : (out word : List ℕ) (at i : ℕ) → at + i < length out → i < length word
-    → placed (set out (at + i) (get_or word i 0)) (at + (i + 1)) (drop (i + 1) word) ≡ placed out (at + i) (drop i word)
-placed-turn out word at i room here =
-    let next : at + (i + 1) ≡ suc (at + i) = omega arith in
-    ap₂ (λ (k j : ℕ). placed (set out (at + i) (get_or word i 0)) k (drop j word)) next (add-one i)
-    ∙ placed-step out (at + i) (get_or word i 0) (drop (suc i) word) room
-    ∙ ap (placed out (at + i)) (sym (drop-cons word i 0 here))
-
-pub placed-done : (out word : List ℕ) (at i : ℕ) → i ≡ min (length word) (length out - at) → at ≤ length out → placed out (at + i) (drop i word) ≡ out
-placed-done out word at i e here = go (ltb (length out - at) (length word)) refl
-  where
-    go : (b : Bool) → ltb (length out - at) (length word) ≡ b → placed out (at + i) (drop i word) ≡ out
-    go true p =
-        let short : length out - at < length word = ltb-true _ _ p in
-        let full : i ≡ length out - at = e ∙ min-eq_right (le_of_lt short) in
-        placed_past out (at + i) (drop i word) (omega arith)
-    go false p =
-        let long : length word ≤ length out - at = ltb-false _ _ p in
-        let whole : i ≡ length word = e ∙ min-eq_left long in
-        let far : length word ≤ i = omega arith in
-        ap (placed out (at + i)) (drop_of_length-le word far) ∙ placed-none out (at + i)
+pub placed-parts : (out xs : List ℕ) (at n : ℕ) → at ≤ length out → n ≡ min (length xs) (length out - at) → take at out ++ (take n xs ++ drop n (drop at out)) ≡ placed out at xs
+unfolding placed
+placed-parts [] xs at n h e =
+    let a : at ≡ 0 = omega arith in
+    let k : n ≡ 0 = omega arith in
+    rw (a, k) refl
+placed-parts (y ∷ out) [] zero n h e =
+    let k : n ≡ 0 = omega arith in
+    rw k refl
+placed-parts (y ∷ out) (x ∷ xs) zero n h e =
+    let m : ℕ = min (length xs) (length out) in
+    let k : n ≡ suc m = omega arith in
+    rw k (ap (λ (r : List ℕ). x ∷ r) (placed-parts out xs zero m (omega arith) (omega arith)))
+placed-parts (y ∷ out) xs (suc at) n h e =
+    ap (λ (r : List ℕ). y ∷ r) (placed-parts out xs at n (omega arith) (omega arith))
 
 -- ---- the loops that put digits: the digits of what is left, put behind those that are done
 
-pub octets-turn : (out octets : List ℕ) (end i : ℕ) → i < length octets → (out' : List ℕ) (end' : ℕ)
-    → out' ≡ placed out end (octet_digits (get_or octets i 0 ∷ [])) → end' ≡ end_of (length out) end 2
-    → (placed out' end' (octet_digits (drop (i + 1) octets)) ≡ placed out end (octet_digits (drop i octets)))
-    × (end_of (length out) end' (length (octet_digits (drop (i + 1) octets))) ≡ end_of (length out) end (length (octet_digits (drop i octets))))
+pub octets-one : (x : ℕ) (s : List ℕ) → octet_digits (x ∷ s) ≡ octet_digits (x ∷ []) ++ octet_digits s
 unfolding octet_digits
-octets-turn out octets end i here out' end' p q =
-    let x : ℕ = get_or octets i 0 in
-    let rest : List ℕ = octet_digits (drop (i + 1) octets) in
-    let next : octet_digits (drop i octets) ≡ octet_digits (x ∷ []) ++ rest =
-    ap octet_digits (drop-cons octets i 0 here ∙ ap (λ (k : ℕ). x ∷ drop k octets) (sym (add-one i))) in (
-      ap₂ (λ (o : List ℕ) (k : ℕ). placed o k rest) p q ∙ placed-more out end (octet_digits (x ∷ [])) rest ∙ ap (placed out end) (sym next),
-      ap (λ (k : ℕ). end_of (length out) k (length rest)) q ∙ end_more (length out) end 2 (length rest) ∙ ap (end_of (length out) end) (sym (ap length next ∙ length-append (octet_digits (x ∷ [])) rest)),
-    )
+octets-one x s = refl
 
-pub units-turn : (out units : List ℕ) (end i : ℕ) → i < length units → (out' : List ℕ) (end' : ℕ)
-    → out' ≡ placed out end (unit_digits (get_or units i 0 ∷ [])) → end' ≡ end_of (length out) end 4
-    → (placed out' end' (unit_digits (drop (i + 1) units)) ≡ placed out end (unit_digits (drop i units)))
-    × (end_of (length out) end' (length (unit_digits (drop (i + 1) units))) ≡ end_of (length out) end (length (unit_digits (drop i units))))
+pub units-one : (x : ℕ) (s : List ℕ) → unit_digits (x ∷ s) ≡ unit_digits (x ∷ []) ++ unit_digits s
 unfolding octet_digits unit_octets unit_digits
-units-turn out units end i here out' end' p q =
-    let x : ℕ = get_or units i 0 in
-    let rest : List ℕ = unit_digits (drop (i + 1) units) in
-    let next : unit_digits (drop i units) ≡ unit_digits (x ∷ []) ++ rest =
-    ap unit_digits (drop-cons units i 0 here ∙ ap (λ (k : ℕ). x ∷ drop k units) (sym (add-one i))) in (
-      ap₂ (λ (o : List ℕ) (k : ℕ). placed o k rest) p q ∙ placed-more out end (unit_digits (x ∷ [])) rest ∙ ap (placed out end) (sym next),
-      ap (λ (k : ℕ). end_of (length out) k (length rest)) q ∙ end_more (length out) end 4 (length rest) ∙ ap (end_of (length out) end) (sym (ap length next ∙ length-append (unit_digits (x ∷ [])) rest)),
+units-one x s = refl
+
+-- of any digits that are those of the first element and then those of the rest
+pub digits-turn : (digits : List ℕ → List ℕ) → ((x : ℕ) (s : List ℕ) → digits (x ∷ s) ≡ digits (x ∷ []) ++ digits s) → (out xs : List ℕ) (end i : ℕ) → i < length xs
+    → (out' : List ℕ) (end' : ℕ) → out' ≡ placed out end (digits (get_or xs i 0 ∷ [])) → end' ≡ end_of (length out) end (length (digits (get_or xs i 0 ∷ [])))
+    → (placed out' end' (digits (drop (i + 1) xs)) ≡ placed out end (digits (drop i xs)))
+    × (end_of (length out) end' (length (digits (drop (i + 1) xs))) ≡ end_of (length out) end (length (digits (drop i xs))))
+digits-turn digits one out xs end i here out' end' p q =
+    let x : ℕ = get_or xs i 0 in
+    let first : List ℕ = digits (x ∷ []) in
+    let rest : List ℕ = digits (drop (i + 1) xs) in
+    let next : digits (drop i xs) ≡ first ++ rest =
+    ap digits (drop-cons xs i 0 here ∙ ap (λ (k : ℕ). x ∷ drop k xs) (sym (add-one i))) ∙ one x (drop (i + 1) xs) in (
+      ap₂ (λ (o : List ℕ) (k : ℕ). placed o k rest) p q ∙ placed-more out end first rest ∙ ap (placed out end) (sym next),
+      ap (λ (k : ℕ). end_of (length out) k (length rest)) q ∙ end_more (length out) end (length first) (length rest) ∙ ap (end_of (length out) end) (sym (ap length next ∙ length-append first rest)),
     )
 
 -- ---- a place behind the buffer

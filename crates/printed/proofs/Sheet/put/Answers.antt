@@ -1,8 +1,7 @@
 -- What is put stands between what stands in front of its place and what stands behind its end.
 use Rattle.std.proofs.Common.{rules, arith, ◌≡◌, sym, length, ℕ, ◌+◌, ◌-◌}
 use Rattle.printed.specs.Printing.{end_of}
-use Rattle.printed.proofs.Printing.{end-past, placed_past}
-use Rattle.printed.proofs.Laid.{placed-parts}
+use Rattle.printed.proofs.Printing.{end-past, placed_past, placed-parts}
 use Rattle.printed.proofs.Sheet.put.Goals as goal
 
 pub returns-then-self-clause-end : goal.returns-then-self-clause-end
