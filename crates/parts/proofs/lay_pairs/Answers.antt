@@ -56,9 +56,6 @@ next-is c codes half e m p h =
     let w : List ℕ = take (a.over + a.n - a.over) (drop a.over c.if-from.septets) in
     subst (λ (b : Bool). PlaceAt t (m + a.n) (a.from.unit + codes) b) (sym e.1) (subst (λ (k : ℕ). PlaceAt t (m + a.n) (a.from.unit + k) (open_after a.from.half w)) (sym e.0) n)
 
-pub overflow_sub-over : goal.overflow_sub-over
-overflow_sub-over c = omega (arith, (c.requires.over_nonzero c.if-from.true).0)
-
 pub encode_part-requires : goal.encode_part-requires
 encode_part-requires c = let a = c.args in
     let w = c.requires.by_index in
@@ -67,13 +64,6 @@ encode_part-requires c = let a = c.args in
     let there : a.n + 1 ≤ length (septets_of (drop a.from.unit a.units.now)) =
     subst (λ (b : Bool). a.n + cond b 1 0 ≤ length (septets_of (drop a.from.unit a.units.now))) half (run-there a.units.now c.requires.codable.0 w.0 a.from.unit a.from.half w.1.0 a.n w.1.1) in
     (c.requires.codable.0, w.1.0.within, omega (arith, c.requires.codable.1), c.requires.codable.2, there)
-
-pub overflow_sub-septets : goal.overflow_sub-septets
-overflow_sub-septets c = omega (arith, (c.requires.over_nonzero c.if-from.true).0)
-
-pub bounds-septets-over : goal.bounds-septets-over
-bounds-septets-over c = let half = c.if-from.true in
-    omega (arith, (c.requires.over_nonzero half).0, c.requires.codable.1, ap length c.encode_part.ensures, encoded-length c.before.before.before.before)
 
 pub encode_part-requires-else-from : goal.encode_part-requires-else-from
 encode_part-requires-else-from c = let a = c.args in
@@ -86,9 +76,6 @@ pub overflow_add-result : goal.overflow_add-result
 overflow_add-result c = let w = c.requires.by_index in
     let within : c.args.from.unit + c.run_of-run.result.codes ≤ length c.args.units.now = (next-is c.before.before.before.before.before _ _ c.run_of-run.ensures w.0 w.1.0 w.1.1).within in
     search rules
-
-pub shape_of-septets : goal.shape_of-septets
-shape_of-septets c = left-length c.before.before.before.before.before
 
 pub returns : goal.returns
 returns c =

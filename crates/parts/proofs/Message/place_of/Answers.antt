@@ -27,9 +27,6 @@ loop-j-preserved c = let a = c.args in
     let few : c.loop-j.j < a.self.now.plan.total = omega (arith, c.requires.0, c.loop-j-test.true) in
     (c.lay_part-place.ensures.placed, blank-after a.self.now.plan a.self.now.units.now c.args.self.now.cut c.loop-j.j few _ c.lay_part-place.ensures.laid_part)
 
-pub shape_of-septets : goal.shape_of-septets
-shape_of-septets c = c.loop-j.invariant.1.0 ∙ sym c.requires.1.0
-
 pub returns : goal.returns
 returns c = let a = c.args in
     let last : c.loop-j.j ≡ a.k = omega (arith, c.loop-j-test.false, c.loop-j.auto.j-end) in
