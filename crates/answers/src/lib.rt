@@ -1,4 +1,5 @@
-// The library's answers in numbers: what each reports, by the definitions of the crate that gives it.
+// The library's answers in numbers: what each reports, by the definitions of the crate that gives it. They are functions and no From: a count, an octet and
+// a message are told of in the same Answer, each with fields of its own, and the name says which.
 #![tactic(auto)]
 
 ghost use Rattle.std.specs.Prelude.{◌≡◌};

@@ -100,7 +100,7 @@ fn rest(numbers: ReadingNumbers) -> u32
     u32::from_le_bytes([low, high, numbers.first, numbers.second])
 }
 
-// The numbers joined.
+// The numbers joined. This and the three calls below are functions and no From: join(numbers(reading)) says which way it goes where two From would not.
 pub fn join(numbers: ReadingNumbers) -> JoinedNumbers
     ensures answer { result ≡ joined_numbers numbers }
 {

@@ -33,10 +33,10 @@ pub fn coded(service: Service, numbers: ReadingNumbers) -> MessageCoding
     if crate::plain(numbers, true) {
         return MessageCoding::Text(writer::settle_plain(service, true));
     }
-    match crate::any_reading(numbers) {
-        Some(reading) => writer::code_message(service, reading),
-        None => MessageCoding::Text(Err(Refusal::Unwritable)),
-    }
+    let Some(reading) = crate::any_reading(numbers) else {
+        return MessageCoding::Text(Err(Refusal::Unwritable));
+    };
+    writer::code_message(service, reading)
 }
 
 // What one message is read with under a coding octet.

@@ -72,7 +72,8 @@ pub fn wikuay_join_pages(blocks: &[u8], out: &mut [u16]) -> JoinAnswer
     joined(joining::join_pages(blocks, out))
 }
 
-// The answer of building a page in numbers, and its block, all zero where it is refused. No message has over 15 pages.
+// The answer of building a page in numbers, and its block, all zero where it is refused. No message has over 15 pages: the cast
+// asks for that bound, and a From has no place for it.
 fn built(answer: Result<Page, Refusal>) -> PageAnswer
     requires { counted_pages (built_of answer).answer ≤ 15 }
     ensures { result ≡ built_answer (built_of answer) }
@@ -103,7 +104,7 @@ fn pages_written(answer: Result<PagesWritten, Refusal>) -> PagesAnswer
     ensures { result ≡ pages_written_answer answer }
 {
     match answer {
-        Ok(PagesWritten { octets, pages }) => page_answers::pages_done(pages as u32, octets),
+        Ok(all) => page_answers::pages_done(all.pages as u32, all.octets),
         Err(refusal) => page_answers::pages_refused(refusal),
     }
 }
@@ -114,15 +115,13 @@ fn joined(answer: Result<Joined, Refusal>) -> JoinAnswer
     ensures { result ≡ joined_answer answer }
 {
     match answer {
-        Ok(
-            Joined {
-                units,
-                reading,
-                sequence,
-                identifier,
-                pages,
-            },
-        ) => page_answers::join_done(pages as u32, units, sequence, identifier, reading),
+        Ok(text) => page_answers::join_done(
+            text.pages as u32,
+            text.units,
+            text.sequence,
+            text.identifier,
+            text.reading,
+        ),
         Err(refusal) => page_answers::join_refused(refusal),
     }
 }

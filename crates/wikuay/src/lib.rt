@@ -149,13 +149,13 @@ fn read_told(service: u32, coding: u8, count: usize, octets: &[u8], out: &mut [u
     }
 }
 
-// The answer of packing in numbers. No count is over 160.
+// The answer of packing in numbers. No count is over 160: the cast asks for that bound, and a From has no place for it.
 fn packed(answer: Result<Packed, Refusal>) -> Answer
     requires { packed_count answer ≤ 160 }
     ensures { result ≡ packed_answer answer }
 {
     match answer {
-        Ok(Packed { octets, count }) => answers::done(count as u32, octets, 0),
+        Ok(packed) => answers::done(packed.count as u32, packed.octets, 0),
         Err(refusal) => answers::refused(refusal),
     }
 }
@@ -166,13 +166,7 @@ fn message_written(answer: Result<MessageWritten, Refusal>) -> Answer
     ensures { result ≡ message_written_answer answer }
 {
     match answer {
-        Ok(
-            MessageWritten {
-                octets,
-                count,
-                coding,
-            },
-        ) => answers::done(count as u32, octets, coding),
+        Ok(message) => answers::done(message.count as u32, message.octets, message.coding),
         Err(refusal) => answers::refused(refusal),
     }
 }

@@ -88,7 +88,7 @@ pub fn wikuay_join_parts(
     joined(part_joining::join_parts(coding, counts, octets, out))
 }
 
-// The answer of counting parts in numbers. No message has over 255 parts.
+// The answer of counting parts in numbers. No message has over 255 parts: the cast asks for that bound, and a From has no place for it.
 fn counted(answer: Result<usize, Refusal>) -> PartsAnswer
     requires { counted_parts answer ≤ 255 }
     ensures { result ≡ counted_answer answer }
@@ -105,15 +105,13 @@ fn part_written(answer: Result<PartWritten, Refusal>) -> PartsAnswer
     ensures { result ≡ part_written_answer answer }
 {
     match answer {
-        Ok(
-            PartWritten {
-                octets,
-                count,
-                marked,
-                coding,
-                parts,
-            },
-        ) => part_answers::parts_done(parts as u32, octets, count as u32, coding, marked),
+        Ok(part) => part_answers::parts_done(
+            part.parts as u32,
+            part.octets,
+            part.count as u32,
+            part.coding,
+            part.marked,
+        ),
         Err(refusal) => part_answers::parts_refused(refusal),
     }
 }
@@ -124,14 +122,9 @@ fn parts_written(answer: Result<PartsWritten, Refusal>) -> PartsAnswer
     ensures { result ≡ parts_written_answer answer }
 {
     match answer {
-        Ok(
-            PartsWritten {
-                octets,
-                marked,
-                coding,
-                parts,
-            },
-        ) => part_answers::parts_done(parts as u32, octets, 0, coding, marked),
+        Ok(all) => {
+            part_answers::parts_done(all.parts as u32, all.octets, 0, all.coding, all.marked)
+        }
         Err(refusal) => part_answers::parts_refused(refusal),
     }
 }
@@ -142,14 +135,9 @@ fn joined(answer: Result<PartsJoined, Refusal>) -> PartsJoinAnswer
     ensures { result ≡ parts_joined_answer answer }
 {
     match answer {
-        Ok(
-            PartsJoined {
-                units,
-                reading,
-                reference,
-                parts,
-            },
-        ) => part_answers::join_done(parts as u32, units, reference, reading),
+        Ok(text) => {
+            part_answers::join_done(text.parts as u32, text.units, text.reference, text.reading)
+        }
         Err(refusal) => part_answers::join_refused(refusal),
     }
 }

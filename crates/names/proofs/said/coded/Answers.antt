@@ -17,8 +17,8 @@ returns-then-plain-2 c = record {
       ap coding.Text c.settle_plain-then-plain-2.ensures.answer ∙ sym (named-coded s _ (c.plain-2.ensures c.if-plain-2.true) ∙ plain-coded s true);
 }
 
-pub returns-in-Some : goal.returns-in-Some
-returns-in-Some c = record { answer = c.code_message.ensures.answer ∙ sym (named-coded c.args.service _ (sym c.any_reading.ensures ∙ c.in-Some.is)) }
+pub returns : goal.returns
+returns c = record { answer = c.code_message.ensures.answer ∙ sym (named-coded c.args.service _ (sym c.in-Some.ensures)) }
 
-pub returns-in-None : goal.returns-in-None
-returns-in-None c = record { answer = sym (unnamed-coded c.args.service _ (sym c.any_reading.ensures ∙ c.in-None.is)) }
+pub returns-in_default : goal.returns-in_default
+returns-in_default c = record { answer = sym (unnamed-coded c.args.service _ (sym c.in_default.ensures)) }
