@@ -23,15 +23,6 @@ loop-k-init c = let p = c.args.self.now in
       sym (ap (λ (l : List ℕ). laid (text_of l) c.args.out.now) none.0),
     )
 
-pub slice_bounds-read_run-count : goal.slice_bounds-read_run-count
-slice_bounds-read_run-count c = c.run_at-run.ensures.ready.forward
-
-pub slice_bounds-read_run-start : goal.slice_bounds-read_run-start
-slice_bounds-read_run-start c = let w = c.run_at-run.ensures.ready.forward in search rules
-
-pub slice_bounds-read_run-end : goal.slice_bounds-read_run-end
-slice_bounds-read_run-end c = omega (arith, c.run_at-run.ensures.ready.long, c.run_at-run.ensures.ready.most)
-
 -- what is stored so far is within the buffer
 pub offset_bounds-out-at : goal.offset_bounds-out-at
 offset_bounds-out-at c = let p = c.args.self.now in

@@ -77,19 +77,6 @@ slice_bounds-lay_units-start-in-loop-k c = let p = c.args.self.now in
     let s = sorted-as p.parts.ucs2 true c.requires.0 p.parts.counts.now p.parts.octets.now p.sorted in
     units-within p.parts.counts.now p.parts.octets.now p.tables.now.places p.tables.now.starts s c.args.out.now c.loop-k.out c.requires.1 c.loop-k.invariant.1 c.loop-k.k c.loop-k-test.true c.loop-k.at c.loop-k.invariant.0
 
--- one part more
-pub overflow_add-at : goal.overflow_add-at
-overflow_add-at c = let p = c.args.self.now in
-    let s = sorted-as p.parts.ucs2 true c.requires.0 p.parts.counts.now p.parts.octets.now p.sorted in
-    let d = told-as p.parts.ucs2 true c.requires.0 p.parts.counts.now p.parts.octets.now (c.loop-k.k + 1) _ _ _ c.part_at-part.ensures.start_value c.part_at-part.ensures.over_value.0 in
-    let part =
-    units-slice p.parts.counts.now p.parts.octets.now p.tables.now.places p.tables.now.starts s (c.loop-k.k + 1) (omega arith) (omega (arith, c.loop-k-test.true)) c.part_at-part.result.start c.part_at-part.result.over
-    c.part_at-part.result.count d.0 d.2 d.1 in
-    let w =
-    units-more p.parts.counts.now p.parts.octets.now p.tables.now.places p.tables.now.starts s c.args.out.now c.loop-k.out c.requires.1 c.loop-k.invariant.1 c.loop-k.k c.loop-k-test.true c.loop-k.at c.loop-k.invariant.0
-    c.loop-k.invariant.2 _ part _ c.lay_units-at.ensures.buffer _ c.lay_units-at.ensures.answer in
-    omega (arith, w.2)
-
 pub loop-k-preserved : goal.loop-k-preserved
 loop-k-preserved c = let p = c.args.self.now in
     let s = sorted-as p.parts.ucs2 true c.requires.0 p.parts.counts.now p.parts.octets.now p.sorted in

@@ -1,11 +1,8 @@
 -- Where the text has room all of it is stored, by its alphabet. Assumes nothing.
-use Prim.Native.Nat.{◌≤◌}
-use mathlib.Core.Bool.{Bool, true, false}
+use mathlib.Core.Bool.{Bool}
 use Prim.Native.Nat.{ℕ}
 use mathlib.Core.List.{List}
-use mathlib.Core.Path.{◌≡◌, sym, ap, subst, ◌∙◌}
-use borrow.Author.Tests.{leb-true}
-use lib.Dec.{leb}
+use mathlib.Core.Path.{sym, ap, ◌∙◌}
 use lib.ListN.{length}
 use Rattle.lists.specs.Lists.{laid}
 use Rattle.parted.specs.Joined.{joined_text}
@@ -17,24 +14,12 @@ pub returns-then-not-has_room : goal.returns-then-not-has_room
 returns-then-not-has_room c = let p = c.args.self.now in
     answered (given-short (joined_text p.parts.ucs2 p.parts.counts.now p.parts.octets.now) c.args.out.now (sym c.has_room.ensures ∙ c.if-not-has_room.true))
 
--- the text that has room, by the name of its alphabet
-fits-as : (ucs2 u : Bool) (cs o out : List ℕ) → leb (length (joined_text ucs2 cs o)) (length out) ≡ true → ucs2 ≡ u → (ucs2 ≡ u) × (length (joined_text u cs o) ≤ length out)
-fits-as ucs2 u cs o out fits e = (e, leb-true _ _ (subst (λ (x : Bool). leb (length (joined_text x cs o)) (length out) ≡ true) e fits))
-
-pub join_units-requires : goal.join_units-requires
-join_units-requires c = let p = c.args.self.now in
-    fits-as p.parts.ucs2 true p.parts.counts.now p.parts.octets.now c.args.out.now (sym c.has_room.ensures ∙ c.if-not-has_room.false) c.if-self.true
-
 pub returns-then-self : goal.returns-then-self
 returns-then-self c = let p = c.args.self.now in
     let same = ap (λ (u : Bool). joined_text u p.parts.counts.now p.parts.octets.now) (sym c.if-self.true) in
     answered
     (given-fits (joined_text p.parts.ucs2 p.parts.counts.now p.parts.octets.now) c.args.out.now (sym c.has_room.ensures ∙ c.if-not-has_room.false) _ _ (c.join_units.ensures.answer ∙ ap length same)
     (c.join_units.ensures.buffer ∙ ap (λ (l : List ℕ). laid l c.args.out.now) same))
-
-pub join_septets-requires : goal.join_septets-requires
-join_septets-requires c = let p = c.args.self.now in
-    fits-as p.parts.ucs2 false p.parts.counts.now p.parts.octets.now c.args.out.now (sym c.has_room.ensures ∙ c.if-not-has_room.false) c.if-self.false
 
 pub returns : goal.returns
 returns c = let p = c.args.self.now in

@@ -9,7 +9,6 @@ use lib.ListN.{length, length-append}
 use Rattle.letters.specs.Reading.{text_in, text_of}
 use Rattle.parted.specs.InnerJoined.{run_behind, run_read, run_open, numbered_content, read_up_to, open_up_to}
 use Rattle.parted.proofs.JoinSteps.{next_run, read_none, text-more, open_more, read_all, joined-all, ready-text, sorted-as}
-use borrow.Author.Rules.{rules}
 use Rattle.part_joining.proofs.Ordered.text_length.Goals as goal
 
 pub loop-k-init : goal.loop-k-init
@@ -17,15 +16,6 @@ unfolding text_in
 loop-k-init c = let p = c.args.self.now in
     let none = read_none p.parts.counts.now p.parts.octets.now in
     (sym (ap (λ (l : List ℕ). length (text_of l)) none.0), sym none.1, omega arith)
-
-pub slice_bounds-read_run-count : goal.slice_bounds-read_run-count
-slice_bounds-read_run-count c = c.run_at-run.ensures.ready.forward
-
-pub slice_bounds-read_run-start : goal.slice_bounds-read_run-start
-slice_bounds-read_run-start c = let w = c.run_at-run.ensures.ready.forward in search rules
-
-pub slice_bounds-read_run-end : goal.slice_bounds-read_run-end
-slice_bounds-read_run-end c = omega (arith, c.run_at-run.ensures.ready.long, c.run_at-run.ensures.ready.most)
 
 pub read_run-n-requires : goal.read_run-n-requires
 read_run-n-requires c = (c.run_at-run.ensures.ready.narrow, omega (arith, ready-text _ _ _ c.run_at-run.ensures.ready))
