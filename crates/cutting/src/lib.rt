@@ -65,6 +65,7 @@ fn room_behind(ucs2: bool, marked: bool) -> usize
 }
 
 // How much a part of a plan holds. It refuses nothing.
+// This and part_length are no methods, since a plan's type stands in parted, which has no code.
 pub fn part_room(plan: Plan) -> usize
     ensures answer { result ≡ plan_room plan }
 {

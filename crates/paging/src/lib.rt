@@ -155,6 +155,7 @@ struct Sized {
 }
 
 // Counts the pages of a text in one pass, and lays its septets over the front of out, as far as they fit: 6, 5.
+// The array is the caller's, with how much of it is laid in the answer, since nothing here is on the heap.
 fn gather_pages(ucs2: bool, units: &[u16], out: &mut [u8]) -> Result<Sized, Refusal>
     requires { length out.old ≡ 1395 }
     ensures { MatchResult result (λ s. (sized_as ucs2 units.now ≡ Ok s.pages) × Gathered ucs2 units.now s.pages s.septets out.new) (λ q. sized_as ucs2 units.now ≡ Err q) }

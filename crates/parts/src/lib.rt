@@ -59,6 +59,7 @@ pub fn write_part(
 }
 
 // Writes a part where the coding is settled: 6, 5, 10, 7.
+// Pages are written in this order too, by a plan, a head and answers of their own: one function for both would take each line as a member of a trait.
 fn write_one(
     coding: TextCoding,
     reference: u8,
@@ -185,7 +186,7 @@ fn mark_size(total: usize) -> usize
     if total == 1 { 0 } else { 6 }
 }
 
-// How many septets it takes.
+// How many septets it takes. One function for both would take the two numbers, and say no more.
 fn mark_septets(total: usize) -> usize
     ensures { result ≡ septets_over (mark_size total) }
 {
