@@ -24,7 +24,8 @@ pub fn read_header(octets: &[u8]) -> Result<HeaderRead, Refusal>
     read_elements(&octets[1..end])
 }
 
-// Reads the elements that octets are, in one pass from one to the next.
+// Reads the elements that octets are, in one pass from one to the next. An element says itself how long it is, so that no iterator cuts them: what is left
+// is split by a while let.
 fn read_elements(body: &[u8]) -> Result<HeaderRead, Refusal>
     requires { length body.now ≤ 255 }
     ensures { result ≡ body_reads (length body.now + 1) None (elements_of body.now) }

@@ -96,6 +96,7 @@ struct Run {
     half: bool,
 }
 
+// Each pass is a for over numbers, and not over a slice: by its number a part is looked up in the tables, in whatever order the parts came.
 impl<'a> Ordered<'a> {
     // Stores the text of the parts: 7.
     fn store_text(&self, out: &mut [u16]) -> Result<usize, Refusal>
