@@ -18,6 +18,7 @@ pub fn plan(ucs2: bool, units: &[u16]) -> Result<Plan, Refusal>
         return planned(true, true, units.len());
     }
     let seen = to_septets::survey(units);
+    // A match, as in paging: map_err would take a closure for one field.
     match seen.measured {
         Ok(n) => planned(false, seen.own, n),
         Err(unit) => Err(Refusal::Unlisted { unit }),

@@ -40,7 +40,8 @@ pub(crate) fn octet_of(text: &[u8]) -> Option<u8> {
     }
 }
 
-// Stores the units that a text spells, and answers how many there are.
+// Stores the units that a text spells, and answers how many there are. Beside octets_of: one for both would take the width, the element and the reader
+// for four lines.
 pub(crate) fn units_of(text: &[u8], units: &mut [u16]) -> Option<usize> {
     // Fixed memory, since no heap is a rule of the project.
     let mut buffer = [0u8; MOST];

@@ -39,6 +39,7 @@ fn unread(rt: &impl Print) {
 
 // Puts the arguments into the line, with an octet 0 between them. A word that is too long makes the line so.
 fn gather(rt: &impl Env, line: &mut Sheet<'_>) {
+    // Fixed memory, since no heap is a rule of the project.
     let mut word = [0u8; MOST];
     // An argument is asked for by its number: a list of them would be on the heap.
     for i in 1..usize::MAX {

@@ -59,7 +59,7 @@ pub enum Kind {
     Other,
 }
 
-// A waiting notice; one that is not active is still a notice.
+// A waiting notice; one that is not active is still a notice. Nothing is one of its values, with a number of its own, and no absence of one.
 #[derive(Clone, Copy)]
 pub enum Notice {
     Nothing,

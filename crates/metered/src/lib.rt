@@ -11,7 +11,7 @@ pub struct Meter {
     pub used: u32,
 }
 
-// A key by value.
+// A key by value. The record stands beside the answer and not in it: that of a refused key is promised too.
 #[derive(Clone, Copy)]
 pub struct Keyed {
     // The record after it.

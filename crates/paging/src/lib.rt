@@ -8,7 +8,7 @@ ghost use Rattle.pages.specs.Parts.{page_room, page_text};
 ghost use Rattle.pages.specs.Written.{page_block, blocks_from, count_answers, build_answers, pages_answers, pages_leaves};
 ghost use Rattle.pages.proofs.Steps.{Gathered};
 ghost use Rattle.pages.specs.Inner.{sized_as, paged_as, text_builds, text_pages, text_pages_leaves};
-ghost use Rattle.paging.specs.Contents.{in_units, held_in, IsLow};
+ghost use Rattle.paging.specs.Inner.{in_units, held_in, IsLow};
 
 use coding::Reading;
 use pages::{Header, Page, PagesWritten};

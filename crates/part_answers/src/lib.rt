@@ -1,4 +1,5 @@
-// The answers of the calls with parts in numbers: what each reports, by the definitions of the crate that gives it.
+// The answers of the calls with parts in numbers: what each reports, by the definitions of the crate that gives it. Functions and no From, as in
+// answers: a success takes more than one value.
 #![tactic(auto)]
 
 ghost use Rattle.std.specs.Prelude.{◌≡◌};

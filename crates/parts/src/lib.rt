@@ -203,7 +203,7 @@ struct Message<'a> {
 }
 
 impl Message<'_> {
-    // Lays part k, counted from 0, over the front of out.
+    // Lays part k, counted from 0, over the front of out. The septets of a part stand in fixed memory, as in put_all.
     fn put_one(&self, k: u8, out: &mut [u8])
         requires { (k < self.now.plan.total) × (plan_octets self.now.plan k ≤ length out.old) }
         ensures { out.new ≡ laid (part_octets self.now.plan.ucs2 self.now.reference self.now.plan.total (content_of self.now.plan.ucs2 self.now.units.now) (k + 1)) out.old }

@@ -54,7 +54,7 @@ pub fn kept(units: &[u16]) -> usize
     }
 }
 
-// Stores units: how many there are.
+// Stores units: how many there are. packing has the same of octets: the clauses of one over any type would speak of opaque elements, and these of numbers.
 // Refuses a short buffer (7). Stores the units at the front of out; a refusal stores nothing.
 pub fn store(units: &[u16], out: &mut [u16]) -> Result<usize, Refusal>
     ensures answer { result ≡ given_answers units.now (length out.old) }

@@ -14,7 +14,7 @@ use Rattle.lists.proofs.Laid.{laid_then, laid-length}
 use Rattle.pages.specs.Blocks.{block_of}
 use Rattle.pages.specs.Written.{page_block, blocks_from}
 use Rattle.pages.proofs.Blocks.{page-block-length, blocks-length, blocks_more}
-use Rattle.paging.specs.Contents.{in_units, held_in}
+use Rattle.paging.specs.Inner.{in_units, held_in}
 use Rattle.paging.proofs.put_pages.Goals as goal
 
 -- m places from a on

@@ -3,7 +3,7 @@ use mathlib.Core.Path.{◌≡◌}
 use lib.ListN.{length}
 use Rattle.lists.specs.Lists.{laid}
 use Rattle.pages.specs.Written.{blocks_from}
-use Rattle.paging.specs.Contents.{in_units, held_in}
+use Rattle.paging.specs.Inner.{in_units, held_in}
 use Rattle.paging.proofs.put_pages.Given as goal
 
 abbrev pub invariant-loop-k : goal.invariant-loop-k
