@@ -51,7 +51,8 @@ fn join_eight(octets: &[u8], at: usize) -> u64
         | (wide(octets[at + 7]) << 56)
 }
 
-// The lowest octet of v at a place.
+// The lowest octet of v at a place. This and the next stay functions over a number, a buffer and a place: they are the steps of one store, and a
+// buffer with its place inside would be made anew for each.
 fn put_one(v: u64, out: &mut [u8], at: usize)
     requires { at + 1 ≤ length out.old }
     ensures { out.new ≡ take at out.old ++ digits 256 1 v ++ drop (at + 1) out.old }

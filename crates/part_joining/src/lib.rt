@@ -198,6 +198,7 @@ impl<'a> Ordered<'a> {
         at
     }
 
+    // That the parts are 7-bit stays a requires of these three methods: the others serve both, and a second struct would say nothing else.
     // How many units the text takes: each run is read into an array of our own. Its passes are those of join_septets: one function over what is done
     // with a run has to promise both what it stores and that it stores nothing, and is longer than the two.
     fn text_length(&self) -> usize

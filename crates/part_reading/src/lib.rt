@@ -52,7 +52,7 @@ fn read_held(
     })
 }
 
-// Reads the text of a message by itself: 4, 12, 4, 7.
+// Reads the text of a message by itself: 4, 12, 4, 7. The count, the octets and the buffer are C's own arguments, handed down as they came.
 fn read_behind(
     ucs2: bool,
     count: usize,

@@ -202,6 +202,7 @@ struct Message<'a> {
     ghost cut: { Cut plan units.now },
 }
 
+// What several methods require stays a requires: k is one argument, and the array is lent from one to the next and known by its lender.
 impl Message<'_> {
     // Lays part k, counted from 0, over the front of out. The septets of a part stand in fixed memory, as in put_all.
     fn put_one(&self, k: u8, out: &mut [u8])
@@ -327,6 +328,7 @@ fn put_header(total: usize, numbers: Numbers, out: &mut [u8])
     out[..6].copy_from_slice(&header::concatenation_header(numbers));
 }
 
+// What this and the next two require of the text and the array is of two lent things at once: a type for both would be taken apart in each.
 // Lays n septets of a text from a place on over those of an array that stand behind `over` others, and answers where they end. Behind an escape the escape is
 // laid too, over the 0 before them, which is put back.
 fn lay_pairs(units: &[u16], from: Place, over: usize, n: usize, septets: &mut [u8]) -> Place

@@ -32,7 +32,8 @@ pub fn read_message(
     read_held(service, reading, count, octets, out)
 }
 
-// The reader of a broadcast page behind the letters of its language: 4, 11, 7.
+// The reader of a broadcast page behind the letters of its language: 4, 11, 7. The count, the octets and the buffer are C's own arguments, handed
+// down as they came.
 fn read_page(
     reading: Reading,
     count: usize,

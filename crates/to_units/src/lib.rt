@@ -105,6 +105,7 @@ fn unit_at(octets: &[u8], i: usize) -> u16
     u16::from_be_bytes([octets[2 * i], octets[2 * i + 1]])
 }
 
+// From here to eight_units each call requires a little less than the one above it, of octets and n as lent: a slice cut for it would ask the same where it is cut.
 // Stores the first n units that octets hold.
 fn get_units(octets: &[u8], n: usize, out: &mut [u16]) -> Result<usize, Refusal>
     requires { 2 * n ≤ length octets.now }

@@ -1,3 +1,4 @@
+-- Lemmas here are over a place of the walk by the prover's name: over plain values each would take every value of the place, and be longer than what it says.
 -- `lay_pairs` meets its contract: the run is laid with the escape before it, which is taken away, and its septets tell where it ends. Assumes nothing.
 use mathlib.Core.Path.{◌≡◌, refl, sym, ap, subst, ◌∙◌}
 use mathlib.Core.Bool.{Bool, cond}

@@ -1,3 +1,4 @@
+-- Lemmas here are over a place of the walk by the prover's name: over plain values each would take every value of the place, and be longer than what it says.
 -- `part_size` meets its contract: what the header takes and what the part holds, each in its measure. Assumes nothing.
 use mathlib.Core.Path.{sym, ap, ap₂, subst, ◌∙◌}
 use Prim.Native.Nat.{ℕ, ◌+◌, ◌*◌, ◌≤◌}

@@ -1,3 +1,4 @@
+-- Lemmas here are over a place of the walk by the prover's name: over plain values each would take every value of the place, and be longer than what it says.
 -- Each run joins the octets right before those that are joined.
 use Prim.Native.Nat.{ℕ, ◌+◌, ◌*◌, ◌%◌, ◌^◌, ◌≤◌}
 use mathlib.Core.Path.{refl, sym, ap, ◌∙◌}

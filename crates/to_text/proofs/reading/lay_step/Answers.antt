@@ -1,3 +1,4 @@
+-- Lemmas here are over a place of the walk by the prover's name: over plain values each would take every value of the place, and be longer than what it says.
 -- `to_text::reading::lay_step` meets its contract: what is not marked is shown by the main table, and a mark is read by what it is. A step has a unit to
 -- lay, so there is room for it.
 -- Assumes nothing.
