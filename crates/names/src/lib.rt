@@ -192,6 +192,8 @@ pub fn reading(numbers: ReadingNumbers) -> Option<Reading>
 }
 
 // The reading whose fields have these numbers, each looked up.
+// Never inlined, so that `reading` stays small enough to stand where it is called, which saves plain text some 30 instructions.
+#[inline(never)]
 pub(crate) fn any_reading(numbers: ReadingNumbers) -> Option<Reading>
     ensures { result ≡ named_reading numbers }
 {

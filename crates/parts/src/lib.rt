@@ -255,6 +255,8 @@ impl Message<'_> {
     }
 
     // Lays part k, which begins at a place, over the front of out, and answers where the next one begins.
+    // Always inlined, so that a message is taken apart where it is made, and no part reads it out of memory.
+    #[inline(always)]
     fn put_part(&self, k: u8, from: Place, septets: &mut [u8], out: &mut [u8]) -> Place
         requires { (k < self.now.plan.total) × Blank self.now.plan septets.old × (plan_octets self.now.plan k ≤ length out.old) × Placed self.now.plan self.now.units.now k from.unit from.half }
         ensures out_after { out.new ≡ laid (part_octets self.now.plan.ucs2 self.now.reference self.now.plan.total (content_of self.now.plan.ucs2 self.now.units.now) (k + 1)) out.old }
