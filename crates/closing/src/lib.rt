@@ -86,7 +86,8 @@ pub fn text_length(service: Service, septets: &[u8]) -> usize
     }
 }
 
-// How many septets are left without the filling that closes them.
+// How many septets are left without the filling that closes them. to_units has the same of units and 000D: over any element its clause would not speak
+// of numbers.
 fn kept(septets: &[u8], filling: u8) -> usize
     ensures { result ≡ length (without_closing filling septets.now) }
 {

@@ -42,7 +42,7 @@ pub enum Held {
 }
 
 impl Held {
-    // Whether it is UCS2.
+    // Whether it is UCS2: from here on a flag, as in the definitions of every call that takes it.
     pub fn is_ucs2(self) -> bool
         ensures answer { result ≡ holds_units self }
     {

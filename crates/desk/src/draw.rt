@@ -126,7 +126,8 @@ fn reads_as(septet: u8, unit: u16) -> bool {
     units[0] == unit
 }
 
-// What a septet means, behind an escape that waits for it or not, before others or as the last one.
+// What a septet means, behind an escape that waits for it or not, before others or as the last one. The flags are facts and no steps: each is asked
+// once, and an enum of their cases would be asked in the same places.
 fn meaning_of(septet: u8, waits: bool, last: bool, old: bool, unit: u16) -> Meaning {
     if waits {
         if septet == ESCAPE {

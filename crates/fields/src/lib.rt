@@ -67,7 +67,7 @@ pub enum Notice {
     Store { active: bool, kind: Kind },
 }
 
-// The two letters that name the language of a text, in front of it. A letter is its octet, and 0 where it is absent.
+// The two letters that name the language of a text, in front of it. A letter is its octet, and 0 where it is absent, as in C's struct.
 #[derive(Clone, Copy)]
 pub struct Letters {
     pub first: u8,
@@ -152,7 +152,7 @@ impl Kind {
     }
 }
 
-// The number of a flag.
+// The number of a flag. By name and not u8::from, as the other fields' numbers, whose definitions the theorems of keys cite (flag_no).
 pub fn flag(b: bool) -> u8
     ensures answer { result ≡ flag_no b }
 {

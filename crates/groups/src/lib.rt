@@ -22,7 +22,7 @@ pub fn squeeze(x: u64) -> u64
     (fours & 0x0fffffff) | (((fours >> 32) & 0x0fffffff) << 28)
 }
 
-// The way back: the eight septets that lie together in the low 56 bits of v, moved apart, one into each octet.
+// The way back, by the same masks in the other order: the eight septets that lie together in the low 56 bits of v, moved apart, one into each octet.
 pub fn stretch(v: u64) -> u64
     ensures answer { result ≡ apart v }
 {

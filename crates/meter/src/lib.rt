@@ -84,7 +84,7 @@ pub fn clear(meter: &mut Meter) -> Result<(), Refusal>
     after.answer
 }
 
-// How many septets a unit takes: none where it is unlisted.
+// How many septets a unit takes: none where it is unlisted. A number and no Option, as unit_septets says it, of which the meter's theorems speak.
 fn septets_of(unit: u16) -> u64
     ensures { (result ≡ unit_septets unit) × (result ≤ 2) }
 {
@@ -111,7 +111,7 @@ fn counted(unit: u16) -> u64
     told.septets as u64
 }
 
-// The septets used less those of a unit; where that is below zero, one more than a sum may be.
+// The septets used less those of a unit; where that is below zero, one more than a sum may be: so one test of the sum refuses both ways, 5.
 fn less(used: u64, septets: u64) -> u64
     ensures { result ≡ less_or used septets }
 {

@@ -18,9 +18,8 @@ use Rattle.coding.specs.LanguageLetters.{is_lettered, lettered_in}
 use Rattle.coding.proofs.Prefixed.{lettered-read, read-given, read-clear}
 use Rattle.coding.specs.Holding.{is_ucs2, text_rules, holds_text}
 use Rattle.coding.specs.Readings.{plain_in}
-use Rattle.writer.specs.declared.MessageCoding.TheVariants as coding
 use Rattle.writer.specs.Settled.{settled_as}
-use Rattle.writer.specs.Coded.{coded_as}
+use Rattle.writer.specs.Coded.{text_by, coded_as}
 use Rattle.names.specs.declared.ReadingNumbers.{ReadingNumbers}
 use Rattle.names.specs.declared.said.Heard.TheVariants as heard
 use Rattle.names.specs.Names.{numbers_of, named_reading, under_reading}
@@ -54,14 +53,14 @@ old-read o ucs2 f t = go (octet_reads OldPage o) refl
 
 pub named-coded : (s : Service) (x : ReadingNumbers) {r : Reading} → named_reading x ≡ Some r → coded_in s x ≡ coded_as s r
 unfolding coded_in
-named-coded s x e = ap (λ (v : Option Reading). under_reading v (coding.Text (Err Unwritable)) (λ r. coded_as s r)) e
+named-coded s x e = ap (λ (v : Option Reading). under_reading v (Err Unwritable) (λ r. coded_as s r)) e
 
-pub unnamed-coded : (s : Service) (x : ReadingNumbers) → named_reading x ≡ None → coded_in s x ≡ coding.Text (Err Unwritable)
+pub unnamed-coded : (s : Service) (x : ReadingNumbers) → named_reading x ≡ None → coded_in s x ≡ Err Unwritable
 unfolding coded_in
-unnamed-coded s x e = ap (λ (v : Option Reading). under_reading v (coding.Text (Err Unwritable)) (λ r. coded_as s r)) e
+unnamed-coded s x e = ap (λ (v : Option Reading). under_reading v (Err Unwritable) (λ r. coded_as s r)) e
 
 -- plain text has no letters in front of it, under any service
-pub plain-coded : (s : Service) (ucs2 : Bool) → coded_as s (plain_in ucs2) ≡ coding.Text (settled_as s (plain_in ucs2))
+pub plain-coded : (s : Service) (ucs2 : Bool) → coded_as s (plain_in ucs2) ≡ text_by (settled_as s (plain_in ucs2))
 unfolding coded_as
 plain-coded ShortMessage ucs2 = refl
 plain-coded Broadcast ucs2 = refl

@@ -12,7 +12,6 @@ use Rattle.coding.specs.declared.Held.{Held}
 use Rattle.coding.specs.LanguageLetters.{is_lettered}
 use Rattle.coding.specs.Holding.{is_ucs2, holds_text}
 use Rattle.writer.specs.declared.MessageCoding.{MessageCoding}
-use Rattle.writer.specs.declared.MessageCoding.TheVariants as coding
 use Rattle.writer.specs.Coded.{coded_as}
 use Rattle.names.specs.declared.ReadingNumbers.{ReadingNumbers}
 use Rattle.names.specs.declared.said.Heard.{Heard}
@@ -22,8 +21,8 @@ use Rattle.names.specs.Joined.{joined_numbers}
 use Rattle.words.specs.declared.Refusal.{Refusal}
 use Rattle.coding.specs.declared.Held.TheVariants as held
 
-unfoldable pub coded_in : Service → ReadingNumbers → MessageCoding
-coded_in s x = under_reading (named_reading x) (coding.Text (Err Unwritable)) (λ r. coded_as s r)
+unfoldable pub coded_in : Service → ReadingNumbers → Result MessageCoding Refusal
+coded_in s x = under_reading (named_reading x) (Err Unwritable) (λ r. coded_as s r)
 
 abbrev pub held_by : Result Held Refusal → Reading → Result Heard Refusal
 held_by (Ok held.Septets) r = Ok (heard.Text false (joined_numbers (numbers_of r)))

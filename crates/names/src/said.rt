@@ -24,17 +24,19 @@ pub enum Heard {
 }
 
 // What the numbers of a reading settle of one message that is written.
-pub fn coded(service: Service, numbers: ReadingNumbers) -> MessageCoding
+pub fn coded(service: Service, numbers: ReadingNumbers) -> Result<MessageCoding, Refusal>
     ensures answer { result ≡ coded_in service numbers }
 {
     if crate::plain(numbers, false) {
-        return MessageCoding::Text(writer::settle_plain(service, false));
+        let coding = writer::settle_plain(service, false)?;
+        return Ok(MessageCoding::Text(coding));
     }
     if crate::plain(numbers, true) {
-        return MessageCoding::Text(writer::settle_plain(service, true));
+        let coding = writer::settle_plain(service, true)?;
+        return Ok(MessageCoding::Text(coding));
     }
     let Some(reading) = crate::any_reading(numbers) else {
-        return MessageCoding::Text(Err(Refusal::Unwritable));
+        return Err(Refusal::Unwritable);
     };
     writer::code_message(service, reading)
 }

@@ -8,7 +8,7 @@ ghost use Rattle.pages.specs.Blocks.{header_of};
 ghost use Rattle.pages.specs.Joined.{same_octets, of_one_message};
 ghost use Rattle.pages.specs.Ordered.{order_of};
 
-// Of each page, by its number, one more than its place among the blocks: 0 is none. Judges the pages in one pass over the blocks, which ends at the first
+// Of each page, by its number, one more than its place among the blocks: 0 is none, so that the array that is handed over by value stays as small. Judges the pages in one pass over the blocks, which ends at the first
 // that is wrong: of more than 15 blocks one is. It refuses nothing: what is wrong has no places.
 pub fn page_order(blocks: &[u8]) -> Option<[usize; 16]>
     ensures answer { result ≡ order_of blocks.now }

@@ -12,7 +12,8 @@ fn wide(x: u8) -> u64
     x as u64
 }
 
-// Two octets from at on as one number, the first lowest.
+// Two octets from at on as one number, the first lowest. This and the next say their size in their clause and are made of one another: one over the
+// size would be a loop over octets.
 fn join_two(octets: &[u8], at: usize) -> u64
     requires { at + 2 ≤ length octets.now }
     ensures { result ≡ value 256 (take 2 (drop at octets.now)) }

@@ -32,6 +32,7 @@ fn text_pages(ucs2: bool, units: &[u16]) -> Result<usize, Refusal>
     if ucs2 {
         return paged(41, units.len());
     }
+    // A match, as in cutting: map_err would take a closure for one field.
     match to_septets::survey(units).measured {
         Ok(n) => paged(93, n),
         Err(unit) => Err(Refusal::Unlisted { unit }),

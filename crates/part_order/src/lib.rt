@@ -19,7 +19,7 @@ pub struct Parts<'a> {
     pub octets: &'a [u8],
 }
 
-// Which part has which number, and where each begins. What has no part has 0.
+// Which part has which number, and where each begins. What has no part has 0, as the promised contents say.
 #[derive(Drop)]
 pub struct Tables {
     // By the number of a part, one more than its place among the parts.

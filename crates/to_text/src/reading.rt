@@ -70,8 +70,8 @@ fn is_short(septets: &[u8], old: bool, room: usize) -> bool
 }
 
 // Lays the text of the septets over the front of the buffer, and answers how many units it has. The first septets are their own units, and
-// stand in the buffer already. A while, as in units_in. Which alphabet is read stays a flag: it picks the mark and where pairs begin, once for all septets, and
-// a step that is lent in its place would be compiled twice.
+// stand in the buffer already. A while, as in units_in. Which alphabet is read stays a flag beside the septets, in each function here:
+// a trait for two alphabets would name in two types what is one comparison, and every clause speaks of it (read_as).
 fn lay_text(septets: &[u8], old: bool, front: usize, out: &mut [u16]) -> usize
     requires front_in_bounds { (front ≤ length septets.now) × (front ≤ length out.old) × OwnFrom septets.now 0 front }
     requires out_value { take front out.old ≡ take front septets.now }

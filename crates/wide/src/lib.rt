@@ -11,7 +11,8 @@ pub fn all_bits(septets: &[u8]) -> u8
     septets.iter().fold(0, |bits, septet| bits | septet)
 }
 
-// The place of the first septet of 128 or more, which refusal 9 tells, or the number of septets where there is none.
+// The place of the first septet of 128 or more, which refusal 9 tells, or the number of septets where there is none. No Option: demands' theorems and
+// rule 9 compare it with the length (first_wide), and a public function that could not fail still cannot.
 pub fn first_wide(septets: &[u8]) -> usize
     ensures answer { result ≡ first_wide septets.now }
 {

@@ -58,9 +58,9 @@ unfolding write_message_gives write_message_keeps coded_in
 gives-coded n x s named us out = simp named (go (named_reading x))
   where
     go : (v : Option Reading)
-        → (message_written_answer (coded_writes (under_reading v (message.Text (Err Unwritable)) (λ r. coded_as s r)) us (length out))
+        → (message_written_answer (coded_writes (under_reading v (Err Unwritable) (λ r. coded_as s r)) us (length out))
         ≡ under_reading v (message_written_answer (Err Unwritable)) (λ r. message_written_answer (write_answers s r us (length out))))
-        × (coded_leaves (under_reading v (message.Text (Err Unwritable)) (λ r. coded_as s r)) us out ≡ under_reading v out (λ r. write_leaves s r us out))
+        × (coded_leaves (under_reading v (Err Unwritable) (λ r. coded_as s r)) us out ≡ under_reading v out (λ r. write_leaves s r us out))
     go (Some r) =
         let w = coded-writes s r us out in
         (ap message_written_answer w.0, w.1)

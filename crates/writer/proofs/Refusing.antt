@@ -35,7 +35,7 @@ use Rattle.demands.proofs.Steps.{coding-verdict, held-verdict}
 use Rattle.writer.specs.declared.MessageCoding.{MessageCoding}
 use Rattle.writer.specs.declared.MessageCoding.TheVariants as coding
 use Rattle.writer.specs.Settled.{settled_by, settled_as, settled_writes, settled_leaves}
-use Rattle.writer.specs.Coded.{lettered_by, coded_as, coded_writes, coded_leaves}
+use Rattle.writer.specs.Coded.{text_by, lettered_by, coded_as, coded_writes, coded_leaves}
 use Rattle.std.specs.Prelude.{Result, Ok, Err}
 use Rattle.writer.specs.declared.TextCoding.{TextCoding}
 use Rattle.demands.specs.Successes.{ok_message_written}
@@ -70,30 +70,33 @@ write-settled-refuses (Ok c) us out q e =
     ap (λ (w : Verdict). settle w (λ r. out) (laid octets out)) v
 write-settled-refuses (Err p) us out q e = refl
 
-same-settled : (x y : Result TextCoding Refusal) → coding.Text x ≡ coding.Text y → x ≡ y
-same-settled x y e = cc
+-- what refuses a text by itself refuses the message
+text-refused : (x : Result TextCoding Refusal) (q : Refusal) → text_by x ≡ Err q → x ≡ Err q
+text-refused (Ok c) q e = absurd (ok-or-err e)
+text-refused (Err p) q e = ap Err (err-inside e)
 
 -- the rules of a message that come before its text
 abbrev settled_rules : Service → Reading → List Rule
 settled_rules s r = coding_rules s r ++ cond (is_lettered s r) [] (text_rules s r)
 
-pub code-message-refuses : (s : Service) (r : Reading) (q : Refusal) → coded_as s r ≡ coding.Text (Err q) → verdict (settled_rules s r) ≡ refused q
+pub code-message-refuses : (s : Service) (r : Reading) (q : Refusal) → coded_as s r ≡ Err q → verdict (settled_rules s r) ≡ refused q
 unfolding coded_as
 code-message-refuses s r q k = go (is_lettered s r) k
   where
-    octet : (w : Result ℕ Refusal) → w ≡ coding_writes s r → lettered_by r w ≡ coding.Text (Err q) → verdict (coding_rules s r ++ []) ≡ refused q
-    octet (Ok o) e f = let z : ◌≡◌ {A = ℕ} 0 1 = cc in absurd (omega arith)
+    octet : (w : Result ℕ Refusal) → w ≡ coding_writes s r → lettered_by r w ≡ Err q → verdict (coding_rules s r ++ []) ≡ refused q
+    octet (Ok o) e f = absurd (ok-or-err f)
     octet (Err p) e f =
-        verdict-refused-first (coding_rules s r) [] p (coding-verdict s r (Err p) e) ∙ ap refused (err-inside (same-settled (Err p) (Err q) f))
+        verdict-refused-first (coding_rules s r) [] p (coding-verdict s r (Err p) e) ∙ ap refused (err-inside f)
 
-    go : (b : Bool) → cond b (lettered_by r (coding_writes s r)) (coding.Text (settled_as s r)) ≡ coding.Text (Err q) → verdict (coding_rules s r ++ cond b [] (text_rules s r)) ≡ refused q
+    go : (b : Bool) → cond b (lettered_by r (coding_writes s r)) (text_by (settled_as s r)) ≡ Err q → verdict (coding_rules s r ++ cond b [] (text_rules s r)) ≡ refused q
     go true e = octet (coding_writes s r) refl e
-    go false e = settle-refuses s r q (same-settled (settled_as s r) (Err q) e)
+    go false e = settle-refuses s r q (text-refused (settled_as s r) q e)
 
 page-refuses : (octet : ℕ) (a : Result ℕ Refusal) (q : Refusal) → page_as octet a ≡ Err q → a ≡ Err q
 page-refuses octet (Ok n) q e = let z : ◌≡◌ {A = ℕ} 0 1 = cc in absurd (omega arith)
 page-refuses octet (Err p) q e = let f : p ≡ q = cc in ap Err f
 
-pub write-coded-refuses : (x : MessageCoding) (us out : List ℕ) (q : Refusal) → coded_writes x us (length out) ≡ Err q → coded_leaves x us out ≡ out
-write-coded-refuses (coding.Text x) us out q e = write-settled-refuses x us out q e
-write-coded-refuses (coding.Lettered c) us out q e = write-refuses-kept c.ucs2 c.letters us out q (page-refuses c.octet (lettered_writes c.ucs2 c.letters us (length out)) q e)
+pub write-coded-refuses : (x : Result MessageCoding Refusal) (us out : List ℕ) (q : Refusal) → coded_writes x us (length out) ≡ Err q → coded_leaves x us out ≡ out
+write-coded-refuses (Ok (coding.Text c)) us out q e = write-settled-refuses (Ok c) us out q e
+write-coded-refuses (Err p) us out q e = refl
+write-coded-refuses (Ok (coding.Lettered c)) us out q e = write-refuses-kept c.ucs2 c.letters us out q (page-refuses c.octet (lettered_writes c.ucs2 c.letters us (length out)) q e)

@@ -49,8 +49,8 @@ pub struct PageCoding {
 // What settles how one message is written.
 #[derive(Clone, Copy)]
 pub enum MessageCoding {
-    // As a text by itself, or why none is written so.
-    Text(Result<TextCoding, Refusal>),
+    // As a text by itself.
+    Text(TextCoding),
     Lettered(PageCoding),
 }
 
@@ -73,42 +73,34 @@ pub fn write_message(
 // What a reading settles of one message before its text is seen.
 // Refuses a reading that cannot be written under the service (8), compressed text (1), a coding that holds no text (2), a header mark, or a
 // prefix mark but on a broadcast page (3).
-pub fn code_message(service: Service, reading: Reading) -> MessageCoding
+pub fn code_message(service: Service, reading: Reading) -> Result<MessageCoding, Refusal>
     ensures answer { result ≡ coded_as service reading }
 {
     if reading.lettered(service) {
-        return page_coding(reading, reading.text_octet(service));
-    }
-    MessageCoding::Text(settle(service, reading))
-}
-
-// The same of a page behind letters, by its coding octet.
-fn page_coding(reading: Reading, written: Result<u8, Refusal>) -> MessageCoding
-    ensures { result ≡ lettered_by reading written }
-{
-    match written {
-        Ok(octet) => MessageCoding::Lettered(PageCoding {
+        let octet = reading.text_octet(service)?;
+        return Ok(MessageCoding::Lettered(PageCoding {
             octet,
             ucs2: reading.is_ucs2(),
             letters: reading.letters,
-        }),
-        Err(refusal) => MessageCoding::Text(Err(refusal)),
+        }));
     }
+    let coding = settle(service, reading)?;
+    Ok(MessageCoding::Text(coding))
 }
 
 // Writes one message for which all else is settled, and hands on why it is not.
 // Refuses, of a page behind letters, those of which one is not a to z (11); a unit that is not in the alphabet (6, the first), a text over the size
 // (5), a short buffer (7). Stores the octets at the front of out; a refusal stores nothing.
 pub fn write_coded(
-    coding: MessageCoding,
+    coding: Result<MessageCoding, Refusal>,
     units: &[u16],
     out: &mut [u8],
 ) -> Result<MessageWritten, Refusal>
     ensures answer { result ≡ coded_writes coding units.now (length out.old) }
     ensures buffer { out.new ≡ coded_leaves coding units.now out.old }
 {
-    match coding {
-        MessageCoding::Text(settled) => write_settled(settled, units, out),
+    match coding? {
+        MessageCoding::Text(coding) => write_text(coding, units, out),
         MessageCoding::Lettered(coding) => write_page(coding, units, out),
     }
 }

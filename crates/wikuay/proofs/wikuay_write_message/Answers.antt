@@ -20,7 +20,7 @@ pub message_written-requires : goal.message_written-requires
 message_written-requires c = let a = c.args in
     let n = sym c.in-Some.ensures.answer in
     let g = gives-coded a.service a.reading _ n a.text.now a.out.now in
-    let w = c.write_coded.ensures.answer ∙ ap (λ (x : MessageCoding). coded_writes x a.text.now (length a.out.now)) c.coded-coding.ensures.answer in
+    let w = c.write_coded.ensures.answer ∙ ap (λ (x : Result MessageCoding Refusal). coded_writes x a.text.now (length a.out.now)) c.coded-coding.ensures.answer in
     subst (λ (w : Result MessageWritten Refusal). write_count w ≤ 160) (sym w) (subst (λ (k : ℕ). k ≤ 160) (sym (ap (λ (b : Answer). b.count) g.0)) (gives-count a.service a.reading a.text.now (length a.out.now)))
 
 pub returns : goal.returns
@@ -29,8 +29,8 @@ returns c = let a = c.args in
     let g = gives-coded a.service a.reading _ n a.text.now a.out.now in
     answered
     ((
-      c.message_written.ensures ∙ ap message_written_answer (c.write_coded.ensures.answer ∙ ap (λ (x : MessageCoding). coded_writes x a.text.now (length a.out.now)) c.coded-coding.ensures.answer) ∙ g.0,
-      c.write_coded.ensures.buffer ∙ ap (λ (x : MessageCoding). coded_leaves x a.text.now a.out.now) c.coded-coding.ensures.answer ∙ g.1,
+      c.message_written.ensures ∙ ap message_written_answer (c.write_coded.ensures.answer ∙ ap (λ (x : Result MessageCoding Refusal). coded_writes x a.text.now (length a.out.now)) c.coded-coding.ensures.answer) ∙ g.0,
+      c.write_coded.ensures.buffer ∙ ap (λ (x : Result MessageCoding Refusal). coded_leaves x a.text.now a.out.now) c.coded-coding.ensures.answer ∙ g.1,
     ))
 
 pub returns-in_default : goal.returns-in_default

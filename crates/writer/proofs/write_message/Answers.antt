@@ -3,6 +3,8 @@ use Rattle.writer.proofs.Settling.{coded-writes}
 use Rattle.writer.specs.declared.MessageCoding.{MessageCoding}
 use Rattle.writer.specs.Coded.{coded_writes, coded_leaves}
 use lib.ListN.{length}
+use Rattle.std.specs.Prelude.{Result}
+use Rattle.words.specs.declared.Refusal.{Refusal}
 use mathlib.Core.Path.{ap, ◌∙◌}
 use Rattle.words.proofs.Clauses.{answered}
 use Rattle.writer.proofs.write_message.Goals as goal
@@ -12,6 +14,6 @@ returns c = let a = c.args in
     let s = coded-writes a.service a.reading a.units.now a.out.now in
     answered
     ((
-      c.write_coded.ensures.answer ∙ ap (λ (x : MessageCoding). coded_writes x a.units.now (length a.out.now)) c.code_message.ensures.answer ∙ s.0,
-      c.write_coded.ensures.buffer ∙ ap (λ (x : MessageCoding). coded_leaves x a.units.now a.out.now) c.code_message.ensures.answer ∙ s.1,
+      c.write_coded.ensures.answer ∙ ap (λ (x : Result MessageCoding Refusal). coded_writes x a.units.now (length a.out.now)) c.code_message.ensures.answer ∙ s.0,
+      c.write_coded.ensures.buffer ∙ ap (λ (x : Result MessageCoding Refusal). coded_leaves x a.units.now a.out.now) c.code_message.ensures.answer ∙ s.1,
     ))
