@@ -100,7 +100,7 @@ pub fn write_coded(
     ensures buffer { out.new ≡ coded_leaves coding units.now out.old }
 {
     match coding? {
-        MessageCoding::Text(coding) => write_text(coding, units, out),
+        MessageCoding::Text(coding) => write_settled(Ok(coding), units, out),
         MessageCoding::Lettered(coding) => write_page(coding, units, out),
     }
 }
