@@ -3,7 +3,6 @@
 
 ghost use Rattle.std.specs.Prelude.{◌≡◌, ℕ, get_or, true, false, ◌+◌, ◌*◌, ◌<◌, ◌≤◌, length};
 ghost use Rattle.lists.specs.Lists.{laid};
-ghost use Rattle.pages.specs.Blocks.{text_in};
 ghost use Rattle.pages.specs.Joined.{header_at, total_at, block_at, place_of, wrong_pages, joined_from, join_answers, join_leaves};
 ghost use Rattle.pages.specs.Inner.{held_joins, held_join_leaves, text_joins, text_join_leaves, Places};
 
@@ -86,13 +85,12 @@ struct Pages<'a> {
 }
 
 impl Pages<'_> {
-    // The text of page k, counted from 0: what stands behind its header.
-    fn text(&self, k: usize) -> &[u8]
+    // The block of page k, counted from 0, taken out of the lent run by value.
+    fn block(&self, k: usize) -> [u8; 88]
         requires { k < self.now.total }
-        ensures { result.now ≡ text_in (block_at self.now.blocks.now (place_of self.now.blocks.now (1 + k))) }
+        ensures { result ≡ block_at self.now.blocks.now (place_of self.now.blocks.now (1 + k)) }
     {
-        let at = 88 * (self.places[1 + k] - 1);
-        &self.blocks[at + 6..at + 88]
+        blocks::block_at(self.blocks, self.places[1 + k] - 1)
     }
 
     // 7-bit text: the septets of all pages in an array of our own, without the CRs that close them, read by the alphabet.
@@ -112,7 +110,8 @@ impl Pages<'_> {
         ensures { out.new ≡ laid (joined_from false self.now.blocks.now 1 self.now.total) out.old }
     {
         for k in 0..self.total {
-            let _ = packing::unpack_all(Service::Broadcast, self.text(k), 0, &mut out[93 * k..]);
+            let block = self.block(k);
+            let _ = packing::unpack_all(Service::Broadcast, &block[6..], 0, &mut out[93 * k..]);
         }
     }
 
@@ -135,7 +134,8 @@ impl Pages<'_> {
         ensures { out.new ≡ laid (joined_from true self.now.blocks.now 1 self.now.total) out.old }
     {
         for k in 0..self.total {
-            to_units::lay_units(self.text(k), &mut out[41 * k..]);
+            let block = self.block(k);
+            to_units::lay_units(&block[6..], &mut out[41 * k..]);
         }
     }
 }

@@ -14,9 +14,9 @@ pub fn page_order(blocks: &[u8]) -> Option<[usize; 16]>
     ensures answer { result ≡ order_of blocks.now }
 {
     let (pages, _) = blocks.as_chunks::<88>();
-    let first = pages.first()?;
+    let first = *pages.first()?;
     let mut places = [0usize; 16];
-    for (i, page) in pages.iter().enumerate() {
+    for (i, &page) in pages.iter().enumerate() {
         if !belongs(first, page) {
             return None;
         }
@@ -26,7 +26,7 @@ pub fn page_order(blocks: &[u8]) -> Option<[usize; 16]>
         }
         places[k] = i + 1;
     }
-    let total = blocks::read_header(*first).total as usize;
+    let total = blocks::read_header(first).total as usize;
     if !all_there(&places[1..=total]) {
         return None;
     }
@@ -34,25 +34,25 @@ pub fn page_order(blocks: &[u8]) -> Option<[usize; 16]>
 }
 
 // The number of the page in a block.
-fn number_in(block: &[u8; 88]) -> usize
-    ensures { (result ≡ (header_of block.now).number) × (result < 16) }
+fn number_in(block: [u8; 88]) -> usize
+    ensures { (result ≡ (header_of block).number) × (result < 16) }
 {
-    blocks::read_header(*block).number as usize
+    blocks::read_header(block).number as usize
 }
 
 // Whether a block is of the message of the first one, and its number is from 1 to the total.
-fn belongs(first: &[u8; 88], block: &[u8; 88]) -> bool
-    ensures { result ≡ (of_one_message first.now block.now && not (lacks (header_of block.now).total (header_of block.now).number)) }
+fn belongs(first: [u8; 88], block: [u8; 88]) -> bool
+    ensures { result ≡ (of_one_message first block && not (lacks (header_of block).total (header_of block).number)) }
 {
-    let head = blocks::read_header(*block);
+    let head = blocks::read_header(block);
     of_one_message(first, block) && !lacks(head.total, head.number)
 }
 
 // Whether two blocks have the same octets 1 to 5 and the same total.
-fn of_one_message(a: &[u8; 88], b: &[u8; 88]) -> bool
-    ensures { result ≡ of_one_message a.now b.now }
+fn of_one_message(a: [u8; 88], b: [u8; 88]) -> bool
+    ensures { result ≡ of_one_message a b }
 {
-    same_head(a, b) && blocks::read_header(*a).total == blocks::read_header(*b).total
+    same_head(a, b) && blocks::read_header(a).total == blocks::read_header(b).total
 }
 
 // Whether a number is not from 1 to the total.
@@ -62,11 +62,11 @@ fn lacks(total: u8, number: u8) -> bool
     number == 0 || total < number
 }
 
-// Whether octets 1 to 5 of two blocks are the same.
-fn same_head(a: &[u8; 88], b: &[u8; 88]) -> bool
-    ensures { result ≡ same_octets 5 a.now b.now }
+// Whether octets 1 to 5 of two blocks are the same. They are taken out of the blocks: where slices of these are compared, the compiler copies each block whole.
+fn same_head(a: [u8; 88], b: [u8; 88]) -> bool
+    ensures { result ≡ same_octets 5 a b }
 {
-    a[..5] == b[..5]
+    [a[0], a[1], a[2], a[3], a[4]] == [b[0], b[1], b[2], b[3], b[4]]
 }
 
 // Whether each of these places is one.

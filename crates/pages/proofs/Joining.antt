@@ -10,7 +10,6 @@ use native.Mathlib.Omega.{arith}
 use lib.Dec.{lit<, leb, eqb}
 use lib.ListN.{length, get_or, take, drop, length-append, length-drop, drop_of_length-le}
 use lib.Seq.{length-take-le, take_all, take_at, take-take, drop-drop}
-use Rattle.std.proofs.lemmas.List.{drop-take}
 use borrow.Author.Tests.{le-ltb, lt-leb, eq-eqb, ne_eqb}
 use Rattle.words.specs.declared.Service.TheVariants.{Broadcast}
 use Rattle.words.specs.declared.Refusal.{Refusal}
@@ -70,28 +69,22 @@ block-whole o i h = length-take-le 88 (drop (88 * i) o) (omega (arith, length-dr
 text-whole : (o : List ℕ) (i : ℕ) → i < block_count o → length (text_in (block_at o i)) ≡ 82
 text-whole o i h = omega (arith, length-drop 6 (block_at o i), block-whole o i h)
 
--- the text of page k is what stands behind six octets of the block at its place in the table
+-- the block of page k and its text
 module _ (o places : List ℕ) (k : ℕ) (right : wrong_pages o ≡ false) (table : Places o places) (low : 1 ≤ k) (high : k ≤ total_at o 0) where
   -- where this block begins
   page-at : get_or places k 0 - 1 ≡ place_of o k
   page-at = omega (arith, table k low high)
 
-  pub page-within : (1 ≤ get_or places k 0) × (88 * (get_or places k 0 - 1) + 88 ≤ length o) × (get_or places k 0 ≤ 16)
-  page-within = (
-    omega (arith, table k low high),
-    omega (arith, page-at, page-placed o k right low high),
-    omega (arith, table k low high, page-placed o k right low high, (right-read-once o right).count, total-below o 0),
-  )
+  -- the block that the table names for it
+  pub page-there : block_or_zeros o (get_or places k 0 - 1) ≡ block_at o (place_of o k)
+  page-there = rw page-at (block_here o (place_of o k) (page-placed o k right low high))
 
-  pub page-text : (n : ℕ) → n ≡ 88 * (get_or places k 0 - 1) → take (n + 88 - (n + 6)) (drop (n + 6) o) ≡ text_in (block_at o (place_of o k))
-  unfolding block_at
-  page-text n e =
-      let size : n + 88 - (n + 6) ≡ 82 = omega arith in
-      let at : n ≡ 88 * place_of o k = omega (arith, e, page-at) in
-      ap (λ (m : ℕ). take m (drop (n + 6) o)) size
-      ∙ ap (take 82) (sym (drop-drop 6 n o))
-      ∙ ap (λ (m : ℕ). take 82 (drop 6 (drop m o))) at
-      ∙ sym (drop-take 6 82 (drop (88 * place_of o k) o))
+  -- what stands behind the header of this block is a text of 82 octets
+  pub page-text : (block : List ℕ) → block ≡ block_at o (place_of o k) → take 82 (drop 6 block) ≡ text_in (block_at o (place_of o k))
+  page-text block e =
+      let t : List ℕ = text_in (block_at o (place_of o k)) in
+      let whole : length t ≡ 82 = text-whole o (place_of o k) (page-placed o k right low high) in
+      ap (λ (x : List ℕ). take 82 (drop 6 x)) e ∙ take_all 82 t (omega arith)
 
 -- its septets are septets
 page-below : (o : List ℕ) → Below 256 o → (i : ℕ) → Below 128 (unpacked 93 (text_in (block_at o i)))

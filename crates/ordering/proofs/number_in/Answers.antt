@@ -7,5 +7,5 @@ use Rattle.pages.proofs.Placing.{number_small}
 use Rattle.ordering.proofs.number_in.Goals as goal
 
 pub returns : goal.returns
-returns c = let same : c.read_header.result.number ≡ (header_of c.args.block.now).number = ap (λ (h : Header). h.number) c.read_header.ensures.answer in
-    (same, omega (arith, number_small c.args.block.now))
+returns c = let same : c.read_header.result.number ≡ (header_of c.args.block).number = ap (λ (h : Header). h.number) c.read_header.ensures.answer in
+    (same, omega (arith, number_small c.args.block))

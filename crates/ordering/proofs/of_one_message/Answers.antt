@@ -14,14 +14,14 @@ judged a b s e = ap (λ (x : Bool). x && eqb (header_of a).total (header_of b).t
 
 pub returns-then-same_head : goal.returns-then-same_head
 returns-then-same_head c =
-    let a : List ℕ = c.args.a.now in
-    let b : List ℕ = c.args.b.now in
+    let a : List ℕ = c.args.a in
+    let b : List ℕ = c.args.b in
     same-totals a b _ _ c.read_header.ensures.answer c.read_header-then-same_head.ensures.answer
     ∙ sym (ap (λ (x : Bool). x && eqb (header_of a).total (header_of b).total) c.if-same_head.true)
     ∙ judged a b _ c.same_head.ensures
 
 pub returns-else-same_head : goal.returns-else-same_head
 returns-else-same_head c =
-    let a : List ℕ = c.args.a.now in
-    let b : List ℕ = c.args.b.now in
+    let a : List ℕ = c.args.a in
+    let b : List ℕ = c.args.b in
     c.if-same_head.false ∙ sym (ap (λ (x : Bool). x && eqb (header_of a).total (header_of b).total) c.if-same_head.false) ∙ judged a b _ c.same_head.ensures

@@ -76,14 +76,14 @@ loop-i-preserved c =
 pub slice_bounds-all_there-end : goal.slice_bounds-all_there-end
 slice_bounds-all_there-end c =
     let places : List ℕ = c.loop-i.places in
-    let within = total-within _ places _ c.read_header-total.ensures.answer c.loop-i.invariant.long refl in
+    let within = total-within _ places _ c.read_header.ensures.answer c.loop-i.invariant.long refl in
     omega (arith, within)
 
 pub returns-then-not-all_there : goal.returns-then-not-all_there
 returns-then-not-all_there c = record {
   answer = let o : List ℕ = c.args.blocks.now in
       let first = chunk-first o _ c.as_chunks.ensures.front _ c.in_ok-first.ensures.value in
-      let there = lacking-is o _ _ _ (total-is _ _ _ first.1 c.read_header-total.ensures.answer) (total-within _ _ _ c.read_header-total.ensures.answer c.loop-i.invariant.long refl) c.all_there.ensures in
+      let there = lacking-is o _ _ _ (total-is _ _ _ first.1 c.read_header.ensures.answer) (total-within _ _ _ c.read_header.ensures.answer c.loop-i.invariant.long refl) c.all_there.ensures in
       let all : c.loop-i.i ≡ block_count o = omega (arith, c.loop-i.auto.i-end, c.loop-i-test.false, c.as_chunks.ensures.front_len) in
       sym (order-missing _ c.loop-i.invariant all (not-false _ (sym there ∙ c.if-not-all_there.true)));
 }
@@ -92,7 +92,7 @@ pub returns : goal.returns
 returns c = record {
   answer = let o : List ℕ = c.args.blocks.now in
       let first = chunk-first o _ c.as_chunks.ensures.front _ c.in_ok-first.ensures.value in
-      let there = lacking-is o _ _ _ (total-is _ _ _ first.1 c.read_header-total.ensures.answer) (total-within _ _ _ c.read_header-total.ensures.answer c.loop-i.invariant.long refl) c.all_there.ensures in
+      let there = lacking-is o _ _ _ (total-is _ _ _ first.1 c.read_header.ensures.answer) (total-within _ _ _ c.read_header.ensures.answer c.loop-i.invariant.long refl) c.all_there.ensures in
       let all : c.loop-i.i ≡ block_count o = omega (arith, c.loop-i.auto.i-end, c.loop-i-test.false, c.as_chunks.ensures.front_len) in
       sym (order-right _ c.loop-i.invariant all (omega (arith, first.0)) (not-true _ (sym there ∙ c.if-not-all_there.false)));
 }
