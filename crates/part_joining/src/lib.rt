@@ -52,6 +52,8 @@ fn join_held(
 }
 
 // Joins the text of parts, as 7-bit text or as UCS2: 4, 12, 4, 10, 7.
+// Never inlined: its tables are on the stack only while it runs.
+#[inline(never)]
 fn join_text(reading: Reading, parts: &Parts, out: &mut [u16]) -> Result<PartsJoined, Refusal>
     ensures answer { result ≡ text_joins reading parts.now.ucs2 parts.now.counts.now parts.now.octets.now (length out.old) }
     ensures buffer { out.new ≡ text_join_leaves parts.now.ucs2 parts.now.counts.now parts.now.octets.now out.old }

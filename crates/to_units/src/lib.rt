@@ -1,7 +1,7 @@
 // Octets into UCS2 units under each service: high octet first, and the page of 41 units without its closing CRs. Units left without those, and stored.
 #![tactic(auto)]
 
-ghost use Rattle.std.specs.Prelude.{◌≡◌, ◌+◌, ◌*◌, ◌≤◌, ◌<◌, ◌++◌, length, take, drop, get_or};
+ghost use Rattle.std.specs.Prelude.{◌≡◌, ◌+◌, ◌*◌, ◌≤◌, ◌<◌, ◌++◌, length, take, drop, get_or, eqb};
 ghost use Rattle.lists.specs.Lists.{laid};
 ghost use Rattle.lists.specs.Closing.{without_closing};
 ghost use Rattle.stream.specs.Ucs2.{octet_units};
@@ -90,11 +90,19 @@ fn page_kept(octets: &[u8]) -> usize
     ensures { result ≡ length (without_closing 13 (octet_units octets.now)) }
 {
     for n in (0..41).rev() {
-        if unit_at(octets, n) != 13 {
+        if !is_cr(octets, n) {
             return n + 1;
         }
     }
     0
+}
+
+// Whether the unit at a place is a CR, octet by octet: two as one number take the compiler an instruction that stalls, half as long again for an empty page.
+fn is_cr(octets: &[u8], i: usize) -> bool
+    requires { 2 * i + 1 < length octets.now }
+    ensures { result ≡ eqb (get_or (octet_units octets.now) i 0) 13 }
+{
+    octets[2 * i] == 0 && octets[2 * i + 1] == 13
 }
 
 // The unit at a place, high octet first.
