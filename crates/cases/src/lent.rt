@@ -1,4 +1,4 @@
-// What a case is run in. A run holds one of each buffer, at the sizes that docs/CASES.md has, since the programs of this repository use no heap.
+// What a case is run in: one of each buffer, at the sizes that docs/CASES.md has, since the programs of this repository use no heap.
 ghost use Rattle.std.proofs.Common.{rules};
 
 use crate::text::Text;
@@ -11,8 +11,6 @@ pub(crate) struct Lent<'a> {
     pub octets: [u8; 8192],
     pub units: [u16; 4096],
     pub counts: [u8; 8192],
-    // A text that is taken several times.
-    pub long: [u16; 40960],
     // What the library is lent, of which a case gives the length.
     pub out: [u8; 4096],
     pub text: [u16; 4096],
@@ -27,7 +25,6 @@ impl<'a> Lent<'a> {
             octets: [0; 8192],
             units: [0; 4096],
             counts: [0; 8192],
-            long: [0; 40960],
             out: [0; 4096],
             text: [0; 4096],
             sizes: [0; 4096],

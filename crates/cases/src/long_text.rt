@@ -2,7 +2,12 @@
 use crate::lent::{Lent, Verdict, judge, judge_both, left_in, repeated, room};
 use crate::text::Text;
 use crate::value::Value;
+use names::ReadingNumbers;
+use part_answers::PartsAnswer;
 use wikuay::long_messages;
+
+// No text that is taken several times is longer.
+const LONG: [u16; 40960] = [0; 40960];
 
 pub(crate) fn read_part(case: &mut Text, lent: &mut Lent) -> Option<Verdict> {
     let coding = case.octet(b"coding")?;
@@ -32,13 +37,48 @@ pub(crate) fn read_part(case: &mut Text, lent: &mut Lent) -> Option<Verdict> {
     )
 }
 
+// The three calls on a text that is taken several times. None is inlined: the long text is on the stack only while one of them runs.
+#[inline(never)]
+fn counted(reading: ReadingNumbers, units: &[u16], times: usize) -> Option<PartsAnswer> {
+    let mut long = LONG;
+    let text = repeated(units, times, &mut long)?;
+    Some(long_messages::wikuay_count_parts(reading, text))
+}
+
+#[inline(never)]
+fn part_written(
+    reading: ReadingNumbers,
+    reference: u8,
+    units: &[u16],
+    times: usize,
+    number: usize,
+    out: &mut [u8],
+) -> Option<PartsAnswer> {
+    let mut long = LONG;
+    let text = repeated(units, times, &mut long)?;
+    Some(long_messages::wikuay_write_part(reading, reference, text, number, out))
+}
+
+#[inline(never)]
+fn parts_written(
+    reading: ReadingNumbers,
+    reference: u8,
+    units: &[u16],
+    times: usize,
+    out: &mut [u8],
+    sizes: &mut [u8],
+) -> Option<PartsAnswer> {
+    let mut long = LONG;
+    let text = repeated(units, times, &mut long)?;
+    Some(long_messages::wikuay_write_parts(reading, reference, text, out, sizes))
+}
+
 pub(crate) fn count_parts(case: &mut Text, lent: &mut Lent) -> Option<Verdict> {
     let reading = case.reading()?;
     let units = case.units(b"text", &mut lent.units)?;
     let times = case.times()?;
     let expected = case.expected()?;
-    let text = repeated(units, times, &mut lent.long)?;
-    let answer = long_messages::wikuay_count_parts(reading, text);
+    let answer = counted(reading, units, times)?;
     judge(
         expected,
         &[
@@ -59,8 +99,7 @@ pub(crate) fn write_part(case: &mut Text, lent: &mut Lent) -> Option<Verdict> {
     let number = case.number(b"number")?;
     let out = room(&mut lent.out, case.number(b"room")?)?;
     let expected = case.expected()?;
-    let text = repeated(units, times, &mut lent.long)?;
-    let answer = long_messages::wikuay_write_part(reading, reference, text, number as usize, out);
+    let answer = part_written(reading, reference, units, times, number as usize, out)?;
     let (front, touched) = left_in(out, answer.written);
     judge(
         expected,
@@ -87,8 +126,7 @@ pub(crate) fn write_parts(case: &mut Text, lent: &mut Lent) -> Option<Verdict> {
     let out = room(&mut lent.out, case.number(b"room")?)?;
     let sizes = room(&mut lent.sizes, case.number(b"list")?)?;
     let expected = case.expected()?;
-    let text = repeated(units, times, &mut lent.long)?;
-    let answer = long_messages::wikuay_write_parts(reading, reference, text, out, sizes);
+    let answer = parts_written(reading, reference, units, times, out, sizes)?;
     let (front, touched) = left_in(out, answer.written);
     let (listed, also) = left_in(sizes, 2 * (answer.parts as usize));
     judge_both(

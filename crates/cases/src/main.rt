@@ -29,13 +29,23 @@ struct Totals {
 #[derive(Drop)]
 struct Run<'a> {
     line: Sheet<'a>,
-    lent: Lent<'a>,
     totals: Totals,
 }
 
 // Words that cannot be written are lost: their reader has gone away.
 fn say(rt: &impl Print, words: &[u8]) {
     let _ = rt.write_all(words);
+}
+
+fn say_number(rt: &impl Print, n: u64) {
+    let _ = print!(rt; "{}", n);
+}
+
+// What is said of a line as a whole.
+fn say_line(rt: &impl Print, number: u64, words: &[u8]) {
+    say(rt, b"line ");
+    say_number(rt, number);
+    say(rt, words);
 }
 
 fn is_label(c: u8) -> bool {
@@ -78,40 +88,44 @@ fn judge_case(rt: &impl Print, line: &[u8], lent: &mut Lent) -> Option<Verdict> 
 
 impl<'a> Run<'a> {
     // Runs what stands in the line buffer, if that is a case, and answers whether it agrees. An empty line and a comment agree.
-    fn judge(&mut self, rt: &impl Print) -> bool {
+    fn judge(&mut self, rt: &impl Print, lent: &mut Lent) -> bool {
         let line = self.line.written();
         if line.is_empty() || line[0] == b'#' {
             return true;
         }
         self.totals.cases = self.totals.cases.saturating_add(1);
         if 16384 < line.len() {
-            let _ = println!(rt; "line {}: longer than 16384 characters", self.totals.lines);
+            say_line(rt, self.totals.lines, b": longer than 16384 characters\n");
             return false;
         }
-        match judge_case(rt, line, &mut self.lent) {
+        match judge_case(rt, line, lent) {
             Some(Verdict::Agrees) => true,
             Some(Verdict::Differs) => false,
             None => {
-                let _ = println!(rt; "line {}: not a case", self.totals.lines);
+                say_line(rt, self.totals.lines, b": not a case\n");
                 false
             }
         }
     }
 
     // Ends a line: at a line feed, and at the end of the input.
-    fn end_line(&mut self, rt: &impl Print) {
+    fn end_line(&mut self, rt: &impl Print, lent: &mut Lent) {
         self.totals.lines = self.totals.lines.saturating_add(1);
-        if !self.judge(rt) {
+        if !self.judge(rt, lent) {
             self.totals.differ = self.totals.differ.saturating_add(1);
         }
         self.line.end = 0;
     }
 
-    // Takes in what was read: a line feed closes a line.
+    // Takes in what was read: a line feed closes a line. Never inlined: what a case is run in is on the stack only while there are lines.
+    #[inline(never)]
     fn feed(&mut self, rt: &impl Print, chunk: &[u8]) {
+        // Fixed buffers, since the programs of this repository use no heap.
+        let mut came = [0u8; 20480];
+        let mut lent = Lent::new(&mut came);
         for (i, piece) in chunk.split(|c| *c == b'\n').enumerate() {
             if 0 < i {
-                self.end_line(rt);
+                self.end_line(rt, &mut lent);
             }
             self.line.put(piece);
         }
@@ -139,13 +153,11 @@ impl<'a> Run<'a> {
 }
 
 fn main(rt: HostRuntime) {
-    // Fixed buffers, since the programs of this repository use no heap.
+    // Fixed buffers, as in feed.
     let mut chunk = io::large_buffer();
     let mut line = [0u8; 16385];
-    let mut came = [0u8; 20480];
     let mut run = Run {
         line: Sheet::new(&mut line),
-        lent: Lent::new(&mut came),
         totals: Totals {
             lines: 0,
             cases: 0,
@@ -154,7 +166,10 @@ fn main(rt: HostRuntime) {
     };
     run.feed_all(&rt, &mut chunk);
     if run.line.end != 0 {
-        run.end_line(&rt);
+        run.feed(&rt, b"\n");
     }
-    let _ = println!(rt; "{} cases, {} differ", run.totals.cases, run.totals.differ);
+    say_number(&rt, run.totals.cases);
+    say(&rt, b" cases, ");
+    say_number(&rt, run.totals.differ);
+    say(&rt, b" differ\n");
 }

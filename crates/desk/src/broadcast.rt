@@ -80,6 +80,8 @@ fn one<'a>(
 }
 
 // The text of blocks. 1, 2 and 3 are of the first block's coding octet.
+// Never inlined: its buffer is on the stack only while it runs.
+#[inline(never)]
 pub(crate) fn join<'a>(answer: &mut Answer<'_>, octets: &'a [u8]) -> Result<(), Refused<'a>> {
     // Fixed memory, since no heap is a rule of the project.
     let mut buffer = [0u16; 1395];

@@ -23,6 +23,8 @@ fn clean(text: &[u8], size: usize, digits: &mut Sheet<'_>) -> Option<()> {
 }
 
 // Stores the octets that a text spells, and answers how many there are.
+// Never inlined: its buffer is on the stack only while it runs.
+#[inline(never)]
 pub(crate) fn octets_of(text: &[u8], octets: &mut [u8]) -> Option<usize> {
     // Fixed memory, since no heap is a rule of the project.
     let mut buffer = [0u8; MOST];
@@ -42,6 +44,8 @@ pub(crate) fn octet_of(text: &[u8]) -> Option<u8> {
 
 // Stores the units that a text spells, and answers how many there are. Beside octets_of: one for both would take the width, the element and the reader
 // for four lines.
+// Never inlined, as octets_of.
+#[inline(never)]
 pub(crate) fn units_of(text: &[u8], units: &mut [u16]) -> Option<usize> {
     // Fixed memory, since no heap is a rule of the project.
     let mut buffer = [0u8; MOST];

@@ -23,6 +23,8 @@ pub(crate) fn write<'a>(
 }
 
 // All parts: how many they are, the mark and the coding octet, and the count and the octets of each.
+// Never inlined: its buffers are on the stack only while it runs.
+#[inline(never)]
 fn all<'a>(
     answer: &mut Answer<'_>,
     job: &Job<'_>,
@@ -139,6 +141,8 @@ pub(crate) fn read<'a>(
 }
 
 // The text of parts.
+// Never inlined, as all.
+#[inline(never)]
 pub(crate) fn join<'a>(
     answer: &mut Answer<'_>,
     job: &Job<'_>,

@@ -38,6 +38,8 @@ fn unread(rt: &impl Print) {
 }
 
 // Puts the arguments into the line, with an octet 0 between them. A word that is too long makes the line so.
+// Never inlined: its buffer is on the stack only while it runs.
+#[inline(never)]
 fn gather(rt: &impl Env, line: &mut Sheet<'_>) {
     // Fixed memory, since no heap is a rule of the project.
     let mut word = [0u8; MOST];
@@ -223,6 +225,8 @@ impl Flow<'_> {
 
 // Answers the lines of standard input, to its end. A proved loop has to end, and nothing says that the input does: so it counts its turns,
 // up to a number that no run reaches.
+// Never inlined, so that a single request has no chunk on its stack.
+#[inline(never)]
 fn lines(rt: &(impl Input + Print), flow: &mut Flow<'_>, out: &mut [u8]) {
     // Fixed memory, since no heap is a rule of the project.
     let mut chunk = io::large_buffer();

@@ -102,6 +102,8 @@ fn tell(answer: &mut Answer<'_>, number: usize, unit: u16, pressed: MeterAnswer)
 }
 
 // The size of the service, and the number after each key.
+// Never inlined: its text is on the stack only while it runs.
+#[inline(never)]
 pub(crate) fn room(rt: &impl Print, answer: &mut Answer<'_>, job: &Job<'_>, units: &[u16]) {
     let mut text = [0u16; MOST];
     let fresh = meters::wikuay_new_meter(job.service.number());
