@@ -2,7 +2,7 @@
 -- Assumes nothing.
 --   join-octet           the whole call by the reading of its coding octet
 --   held-joins, held_none   what the reading holds says how the text is joined
---   text-refused, text-sorted   the text by the order of its parts: the rest of the rules is the room
+--   text-refused, text-sorted, text-sorted-few   the text by the order of its parts: the rest of the rules is the room
 --   sorted-as, told-as   what is known of parts and of one of them, by the name of their alphabet
 --   place-there, start_small, head-within, head_first   of the part with a number: where it stands, and its header's length octet there
 --   place-read, start-read, count-read   the same as the tables say it
@@ -23,7 +23,7 @@ use native.Mathlib.Nat.{add-zero, zero-add, add_comm, suc-add, mod-lt}
 use native.Mathlib.Numerals.{add-one}
 use native.Mathlib.Omega.{arith}
 use borrow.Author.Tests.{lt-ltb, le-ltb, le-leb, lt-leb, leb-true, leb-false, ltb-true, ltb-false, eq-eqb}
-use lib.Dec.{lit<, ltb, leb}
+use lib.Dec.{lit<, ltb, leb, eqb}
 use lib.ListN.{length, get_or, take, drop, set, length-set, length-append, length-drop}
 use lib.Seq.{take_all, take-take, drop_at, drop-cons, take-add, drop-drop, drop-set-lt, length-take-le, get_or-take, get_or-drop, get_or-set_same}
 use Rattle.words.specs.declared.Service.TheVariants.{ShortMessage}
@@ -33,7 +33,7 @@ use Rattle.words.specs.Judging.{Verdict, refused, accepted, when, verdict, settl
 use Rattle.words.proofs.Judging.{verdict-refused-first, verdict-accepted-first, accepted-rule}
 use Rattle.lists.specs.Lists.{first_wide, laid}
 use Rattle.lists.specs.Bits.{bit_of}
-use Rattle.lists.proofs.Below.{Below, below-take}
+use Rattle.lists.proofs.Below.{Below, below-drop, below-take}
 use Rattle.lists.proofs.Places.{place_none}
 use Rattle.lists.proofs.Tests.{and_left, or_right}
 use Rattle.filling.proofs.Table.{table-there}
@@ -55,11 +55,12 @@ use Rattle.stream.proofs.Calls.{array-length, array-all}
 use Rattle.stream.proofs.UnitOctets.{octet-units-length}
 use Rattle.demands.proofs.Steps.{leaves-agree, held_as, held-units, holds-text}
 use Rattle.demands.proofs.Septets.{cut_below}
-use Rattle.headed.specs.Header.{header_size, right_header, septets_over}
-use Rattle.headed.proofs.Steps.{header-fits}
+use Rattle.headed.specs.declared.Numbers.{Numbers}
+use Rattle.headed.specs.Header.{Element, Elements, broken, whole, elements_up_to, elements_of, numbers_of, last_numbers, concatenation, header_size, header_body, numbers_in, header_numbers, right_header, septets_over}
+use Rattle.headed.proofs.Steps.{chosen, header-fits}
 use Rattle.parted.specs.Behind.{unpacked_behind}
 use Rattle.parted.specs.Read.{wrong_head, content_behind}
-use Rattle.parted.specs.Joined.{octets_asked, start_at, part_in, wrong_counts, wrong_heads, odd_parts, numbers_at, reference_in, total_at, number_at, wrong_parts, place_of, content_at, joined_from, joined_content, joined_text, parts_rules, join_rules, join_answers, join_leaves}
+use Rattle.parted.specs.Joined.{octets_asked, start_at, part_in, wrong_counts, wrong_heads, odd_parts, numbers_at, total_in, reference_in, total_at, number_at, wrong_parts, place_of, content_at, joined_from, joined_content, joined_text, parts_rules, join_rules, join_answers, join_leaves}
 use Rattle.parted.specs.Ordered.{order_rules, part_order_of, places_left, starts_left}
 use Rattle.parted.specs.InnerJoined.{held_joins, held_join_leaves, text_joins, text_join_leaves, joined_as, Sorted, over_in, ends_open, settled, run_behind, run_read, run_open, run_in, Ready, read_up_to, open_up_to}
 use Rattle.parted.proofs.ReadSteps.{held_first, held-stops}
@@ -68,7 +69,7 @@ use Rattle.parted.proofs.Lent.{tail-laid}
 use Rattle.parted.proofs.Orders.{right-read-once}
 use Rattle.parted.proofs.OrderSteps.{count_most, part-within, part-whole, start-most, head-there, head_at, start-entry, order-refused, order-accepted, order-reference, left-right}
 use Rattle.parted.proofs.OpenRuns.{open-some, text-append, settled-closed, whole-next, read_next, open_next}
-use Rattle.std.specs.Prelude.{Ok, Err}
+use Rattle.std.specs.Prelude.{Option, Some, None, Ok, Err}
 use Rattle.parted.specs.Successes.{ok_parts_joined}
 
 -- ---- by what the coding octet is read as
@@ -100,6 +101,52 @@ module _ (cs o out : List ℕ) where
       let x = joined_text (is_ucs2 r.alphabet) cs o in
       (sym (ap (λ (w : Verdict). settle w Err (ok_parts_joined (length x) r (reference_in (numbers_at (is_ucs2 r.alphabet) cs o 0)) (length cs))) v), leaves-agree {x = x} out v refl)
 
+-- ---- a total is an octet
+
+-- what was found, and what elements behind it say
+abbrev last_in : Option Numbers → Elements → Option Numbers
+last_in found broken = None
+last_in found (whole es) = last_numbers found es
+
+small-elements : (m : ℕ) (o : List ℕ) → Below 256 o → (found : Option Numbers) → total_in found < 256 → total_in (last_in found (elements_up_to m o)) < 256
+unfolding elements_up_to last_numbers
+small-elements zero [] b found h = h
+small-elements zero (i ∷ o) b found h = omega arith
+small-elements (suc m) [] b found h = h
+small-elements (suc m) (i ∷ []) b found h = omega arith
+small-elements (suc m) (i ∷ n ∷ o) b found h =
+    go (ltb (length o) n) (elements_up_to m (drop n o)) (small-elements m (drop n o) (below-drop 256 o behind n))
+  where
+    behind : Below 256 o
+    behind k = b (suc (suc k))
+
+    here : Element
+    here = record { identifier = i; octets = take n o }
+
+    chosen-small : (t : Bool) → total_in (cond t (Some (numbers_of here)) found) < 256
+    chosen-small true = below-take 256 o behind n 1
+    chosen-small false = h
+
+    go : (t : Bool) (x : Elements) → ((f : Option Numbers) → total_in f < 256 → total_in (last_in f x) < 256) → total_in (last_in found (chosen t here x)) < 256
+    go true x rest = omega arith
+    go false broken rest = omega arith
+    go false (whole es) rest = rest (cond (eqb i concatenation) (Some (numbers_of here)) found) (chosen-small (eqb i concatenation))
+
+total-small : (o : List ℕ) → Below 256 o → total_in (header_numbers o) < 256
+unfolding header_numbers header_body elements_of
+total-small o b =
+    subst (λ (c : Option Numbers). total_in c < 256) (same (elements_of (header_body o)))
+    (small-elements (length (header_body o)) (header_body o) (below-take 256 (drop 1 o) (below-drop 256 o b 1) (get_or o 0 0)) None (omega arith))
+  where
+    same : (x : Elements) → last_in None x ≡ numbers_in x
+    same broken = refl
+    same (whole es) = refl
+
+total-at : (ucs2 : Bool) (cs o : List ℕ) → Below 256 o → (i : ℕ) → total_at ucs2 cs o i < 256
+unfolding numbers_at part_in
+total-at ucs2 cs o b i =
+    total-small (part_in ucs2 cs o i) (below-take 256 (drop (start_at ucs2 cs i) o) (below-drop 256 o b (start_at ucs2 cs i)) (octets_asked ucs2 (get_or cs i 0)))
+
 -- ---- by the order of the parts
 
 module _ (ucs2 : Bool) (cs o : List ℕ) where
@@ -113,9 +160,9 @@ module _ (ucs2 : Bool) (cs o : List ℕ) where
       (sym (ap (λ (w : Verdict). settle w Err (ok_parts_joined (length (joined_text ucs2 cs o)) r (reference_in (numbers_at ucs2 cs o 0)) (length cs))) v), leaves-agree {x = joined_text ucs2 cs o} out v refl)
 
   module _ (reference : ℕ) (d : Ok reference ≡ part_order_of ucs2 cs o) where
-    pub text-sorted : length cs < 256 → (places starts : List ℕ) → places ≡ places_left ucs2 cs o → starts ≡ starts_left ucs2 cs o → Sorted ucs2 cs o places starts
+    pub text-sorted-few : length cs < 256 → (places starts : List ℕ) → places ≡ places_left ucs2 cs o → starts ≡ starts_left ucs2 cs o → Sorted ucs2 cs o places starts
     unfolding order_rules
-    text-sorted few places starts x y =
+    text-sorted-few few places starts x y =
         let one = accepted-rule (wrong_counts ucs2 cs o) WrongLength _ (order-accepted ucs2 cs o reference d) in
         let two = accepted-rule (wrong_heads ucs2 cs o) WrongHeader _ one.1 in
         let three = accepted-rule (odd_parts ucs2 cs o) WrongLength _ two.1 in
@@ -134,6 +181,17 @@ module _ (ucs2 : Bool) (cs o : List ℕ) where
           starting = λ i h.
               ap (λ (l : List ℕ). get_or l i 0) (y ∙ sym left.1) ∙ start-entry ucs2 cs o i (omega arith) ∙ ap (λ (t : Bool). cond t (start_at ucs2 cs i) 0) (lt-ltb i (length cs) h);
         }
+
+    -- of octets the parts are so few, since their total is one
+    pub text-sorted : Below 256 o → (places starts : List ℕ) → places ≡ places_left ucs2 cs o → starts ≡ starts_left ucs2 cs o → Sorted ucs2 cs o places starts
+    unfolding order_rules
+    text-sorted b places starts x y =
+        let one = accepted-rule (wrong_counts ucs2 cs o) WrongLength _ (order-accepted ucs2 cs o reference d) in
+        let two = accepted-rule (wrong_heads ucs2 cs o) WrongHeader _ one.1 in
+        let three = accepted-rule (odd_parts ucs2 cs o) WrongLength _ two.1 in
+        let four = accepted-rule (wrong_parts ucs2 cs o) WrongPages [] three.1 in
+        let right = (right-read-once ucs2 cs o four.0).1 in
+        text-sorted-few (omega (arith, right.count, total-at ucs2 cs o b 0)) places starts x y
 
     pub text-joins : (r : Reading) (out : List ℕ)
         → (joined_as r reference (length cs) (given_answers (joined_text ucs2 cs o) (length out)) ≡ text_joins r ucs2 cs o (length out)) × (given_leaves (joined_text ucs2 cs o) out ≡ text_join_leaves ucs2 cs o out)

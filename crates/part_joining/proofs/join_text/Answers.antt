@@ -3,7 +3,7 @@ use mathlib.Core.Path.{ap, ◌∙◌}
 use borrow.Author.Rules.{rules}
 use lib.ListN.{length}
 use Rattle.parted.specs.InnerJoined.{joined_as}
-use Rattle.parted.proofs.JoinSteps.{text-refused, text-sorted, text-joins}
+use Rattle.parted.proofs.JoinSteps.{text-refused, text-sorted-few, text-joins}
 use Rattle.words.proofs.Clauses.{answered, passed}
 use Rattle.part_joining.proofs.join_text.Goals as goal
 
@@ -15,7 +15,7 @@ pub invariant_of-ordered : goal.invariant_of-ordered
 invariant_of-ordered c = let p = c.args.parts.now in
     record {
       sorted =
-          text-sorted p.ucs2 p.counts.now p.octets.now _ c.in_ok-reference.ensures.answer c.in_ok-reference.ensures.few _ _
+          text-sorted-few p.ucs2 p.counts.now p.octets.now _ c.in_ok-reference.ensures.answer c.in_ok-reference.ensures.few _ _
           c.in_ok-reference.ensures.numbers c.in_ok-reference.ensures.beginnings;
     }
 

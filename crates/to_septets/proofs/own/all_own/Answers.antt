@@ -3,7 +3,7 @@
 use mathlib.Core.Path.{refl}
 use borrow.Author.Rules.{rules}
 use Rattle.letters.specs.OwnCodes.{own_text}
-use Rattle.letters.proofs.OwnCodes.{more-gathered}
+use Rattle.letters.proofs.OwnCodes.{more-gathered-front}
 use Rattle.to_septets.proofs.own.all_own.Goals as goal
 
 pub loop-unit-init : goal.loop-unit-init
@@ -11,4 +11,4 @@ unfolding own_text
 loop-unit-init c = refl
 
 pub loop-unit-preserved : goal.loop-unit-preserved
-loop-unit-preserved c = more-gathered c.args.text.now c.loop-unit.unit-index c.loop-unit.bits c.odd_unit-bits.result (search rules) c.loop-unit.invariant c.odd_unit-bits.ensures
+loop-unit-preserved c = more-gathered-front c.args.text.now c.loop-unit.unit-index c.loop-unit.bits c.odd_unit-bits.result (search rules) c.loop-unit.invariant c.odd_unit-bits.ensures
