@@ -3,11 +3,12 @@
 
 A public call has no `requires`. Its `ensures answer` is an equation of the result with a definition, and for each lent `&mut`
 buffer one clause is an equation of its new contents. A call that answers nothing has the clauses of its buffers alone, at least
-one. The definitions stand in specs/ of a crate, and not in an Inner file, or are the standard library's.
+one. The definitions stand in specs/ of a crate, and not in an Inner file.
 In proofs/Outcomes.antt of its crate, which Lib.antt names, a lemma states `OneAnswer` of that call's own contract, and one
 `OneBuffer` for each lent buffer: any two outcomes coincide. Of a call that borrows a struct they
-state `OneResult` and `OneRecord` of its clauses. Of a struct with a lent buffer in it, lent as `&mut self` or handed out, the clauses are
-equations of its parts, and a lemma states of each part what OneBuffer does; of what is handed out it is `OneShown`, which Outcomes.antt defines.
+state `OneResult` and `OneRecord` of its clauses. Of a struct with buffers or tables in it, lent as `&mut self` or handed out, the clauses are
+equations of its parts, one of each field, and a lemma states of each part what OneBuffer does; of what is handed out it is `OneShown`. A
+part that is handed out may be a number or what was lent. All these statements are of words/proofs/Unique.antt.
 docs/OUTCOMES.md has a row for each call, and for nothing else.
 A crate X_c, a static library, exports the calls of X to C, all of them and nothing else: each has the name, the parameters and the
 clauses of X's call, by the same definitions, and its body is that call. Its contract is held to the same form. It has no lemmas and no
@@ -30,6 +31,8 @@ AFTER = re.compile(r"(?<![\w.'])result(?![\w'])|\.new(?![\w'])")
 CLAUSE = re.compile(r"^\s*(?P<kind>requires|ensures)\b\*? *(?P<name>\w*) *\{(?P<body>.*?)\}\s*(?=^\s*(?:requires|ensures)\b|\Z)", re.M | re.S)
 GHOST = re.compile(r"^(?:pub )?ghost use (?P<path>[\w.]+)\.\{(?P<names>[^}]*)\};", re.M)
 LISTED = re.compile(r"^(\w+)( staticlib)?(?: \w+=\S+)*:", re.M)
+STRUCT = re.compile(r"^(?:pub )?struct (?P<name>\w+)(?:<[^>]*>)? \{\n(?P<body>.*?)^\}", re.M | re.S)
+FIELD = re.compile(r"^    (?:pub(?:\([^)]*\))? )?(?P<name>\w+): ", re.M)
 DEFINED = re.compile(r"^(?:(?:unfoldable|abbrev|pub) )*(?P<name>[^\s:(){}]+) :", re.M)
 
 
@@ -48,6 +51,11 @@ def parameters(head):
     return [one.strip() for one in re.split(r",(?![^\[]*\]|[^<]*>)", inside) if one.strip()]
 
 
+def fields_in(texts):
+    """The fields of each struct of source files, by its name."""
+    return {found["name"]: FIELD.findall(found["body"]) for text in texts for found in STRUCT.finditer(text)}
+
+
 def lemmas_in(text):
     """The lemmas of a proof file by name, each with the statement on one line, and the modules by the names that it gives them."""
     stated = {m[1]: " ".join(m[2].split()) for m in re.finditer(r"^ *pub (\S+) :(.*?)(?=^ *unfolding |^ *\S+ .*=|\Z)", text, re.M | re.S)}
@@ -61,9 +69,9 @@ def first_name(equation):
     return head[1] if head else ""
 
 
-def judged(crate, module, name, kind, head, outcomes, defined):
+def judged(crate, module, name, kind, head, outcomes, defined, structs):
     """What a call's contract lacks, in words; the definitions of its answer and of its lent buffers; and its lemmas, which are not asked
-    for where the outcomes are None."""
+    for where the outcomes are None. The structs are those of the crate, each with its fields."""
     wants, cited, lemmas, handed = [], [], [], []
     front = re.split(r"^\s*(?:requires|ensures)\b", head, flags=re.M)[0]
     clauses = [(m["kind"], m["name"], " ".join(m["body"].split())) for m in CLAUSE.finditer(head)]
@@ -76,21 +84,34 @@ def judged(crate, module, name, kind, head, outcomes, defined):
         found = [re.fullmatch(rf"{value}\.([\w.]+) ≡ (.*)", body) for clause, _, body in clauses if clause == "ensures"]
         return [(part[1], part[2]) for part in found if part and not part[1].endswith("ghost_name") and not AFTER.search(part[2])]
 
+    def untold(struct, parts, whose):
+        """What is wanted of a struct's fields, in words: each has its equation. Of a slice its elements are told."""
+        told = {part.split(".")[0] for part, _ in parts}
+        fields = ["now"] if struct.startswith("&") else structs.get(struct, ["any field"])
+        return [f"has no equation of {field} of {whose}" for field in fields if field not in told]
+
     given = [one.split(":")[0].lstrip("&").removeprefix("mut ") for one in parameters(front)]
     lent = parts_of(r"self\.new") if "&mut self" in parameters(front) else []
+    if "&mut self" in parameters(front):
+        wants += untold(kind, lent, "self at its end")
     answers = [body for clause, named, body in clauses if (clause, named) == ("ensures", "answer")]
     equation = re.fullmatch(r"result ≡ (.*)", answers[0]) if len(answers) == 1 else None
     if silent:
         cited.append(None)
     elif not answers and parts_of("result"):
         handed = parts_of("result")
+        struct = re.match(r"(&|\w+)", front.partition("->")[2].strip())[1]
+        wants += untold(kind if struct == "Self" else struct, handed, "the result")
     elif not equation or AFTER.search(equation[1]):
         wants.append("has no `ensures answer` that is an equation of the result")
     else:
         cited.append(first_name(equation[1]))
     buffers = [(at, one.split(":")[0]) for at, one in enumerate(parameters(front)) if re.search(r": &(?:'\w+ )?mut ", one)]
-    cited += [first_name(equal) for _, equal in handed + lent]
-    if silent and not buffers and not lent:
+    # A part that is handed out may be a number or what was lent; no other equation gives one of these.
+    shown = [first_name(equal) for _, equal in handed]
+    cited += [None if one.isdigit() or one.split(".")[0] in given else one for one in shown]
+    cited += [first_name(equal) for _, equal in lent]
+    if silent and not buffers and "&mut self" not in parameters(front):
         wants.append("answers nothing and lends no buffer")
     # A buffer that is handed out has no end: it is a part of what the call answers.
     kept_for = {one.split(":")[0]: re.search(r": &('\w+) mut ", one) for one in parameters(front)}
@@ -103,7 +124,6 @@ def judged(crate, module, name, kind, head, outcomes, defined):
             wants.append(f"has no equation of {buffer} at its end")
         else:
             cited.append(first_name(left[0]))
-    cited = [one if one and not one.isdigit() and one.split(".")[0] not in given else None for one in cited]
     wants += [f"cites {one}, which no specs/ outside Inner defines" for one in cited if one and one not in defined]
 
     if outcomes is None:
@@ -134,7 +154,7 @@ def judged(crate, module, name, kind, head, outcomes, defined):
     known = re.search(rf"^use Rattle\.words\.proofs\.Unique\.\{{[^}}]*{answer.split()[0]}", outcomes, re.M)
     lemmas.append(stating(answer) if known else None)
     for form, parts in ((r"OneShown KINDS \(λ κs x\. x\.PART(?: ∷ \[\])?\) POST", handed), (r"OneBuffer KINDS \(λ κs u\. u\.0\.now\.PART(?: ∷ \[\])?\) POST", lent)):
-        own = re.search(rf"^(?:use Rattle\.words\.proofs\.Unique\.\{{[^}}]*|abbrev ){form.split()[0]}", outcomes, re.M)
+        own = re.search(rf"^use Rattle\.words\.proofs\.Unique\.\{{[^}}]*{form.split()[0]}", outcomes, re.M)
         for part, _ in parts:
             lemmas.append(stating(form.replace("PART", re.escape(part))) if own else None)
             if not lemmas[-1]:
@@ -209,6 +229,7 @@ def self_test():
         ("an answer by what the buffer has then", good.replace("(length out.old)", "(length out.new)"), laws, 1),
         ("nothing of a word that begins as the result does", good.replace("≡ fills n", "≡ fills results'"), laws, 0),
         ("an answer by no definition", good.replace("≡ fills n", "≡ unheard n"), laws, 1),
+        ("an answer that is an argument", good.replace("≡ fills n (length out.old)", "≡ n"), laws, 1),
         ("a bound in place of an equation", good.replace("result ≡ fills", "result ≤ fills"), laws, 1),
         ("a buffer of ⊤", good.replace(buffer, "    ensures buffer { ⊤ }"), laws, 1),
         ("a buffer as it came", good.replace("out.new", "out.old"), laws, 1),
@@ -249,6 +270,7 @@ def self_test():
         ("no lemma of its buffer", mute, laws.replace("pub fill-buffer-unique", "pub fill-buffer-other"), 1),
         ("no buffer", "pub fn rest(n: usize)\n{\n}\n", laws, 1),
     ]
+    struct = "pub struct Sheet<'a> {\n    pub buffer: &'a mut [u8],\n    pub end: usize,\n    ghost few: { end ≤ 9 },\n}\n"
     sheet = (
         "impl<'a> Sheet<'a> {\n    pub fn fill(&mut self, n: usize)\n        ensures end { self.new.end ≡ fills self.old.end n }\n"
         "        ensures buffer { self.new.buffer.now ≡ fill_leaves n self.old.buffer.now }\n"
@@ -260,18 +282,26 @@ def self_test():
         "pub sheet-fill-buffer-unique : OneBuffer kinds.ps kinds.r (λ κs u. u.0.now.buffer.now) fill.Post\nsheet-fill-buffer-unique κs = p\n"
     )
     shown = sheet.replace("(&mut self, n: usize)", "(buffer: &'a mut [u8]) -> Sheet<'a>").replace("self.new", "result").replace("fills self.old.end n", "0").replace("fill_leaves n self.old.buffer.now", "buffer.old")
-    shows = (
-        parts.replace("use Rattle.words.proofs.Unique.{OneBuffer}", "abbrev OneShown : ⊤").replace("OneBuffer", "OneShown").replace("λ κs u. u.0.now.", "λ κs x. x.")
-    )
+    shows = parts.replace("OneBuffer", "OneShown").replace("λ κs u. u.0.now.", "λ κs x. x.")
+    place = "        ensures end { self.new.end ≡ fills self.old.end n }\n"
     faults += [
         ("nothing of a lent sheet", sheet, parts, 0),
-        ("no equation of its parts", sheet.replace("≡ fills", "≤ fills").replace("≡ fill_leaves", "≤ fill_leaves"), parts, 1),
+        ("no equation of its parts", sheet.replace("≡ fills", "≤ fills").replace("≡ fill_leaves", "≤ fill_leaves"), parts, 2),
+        ("no equation of its place", sheet.replace(place, ""), parts, 1),
+        ("no equation of its place beside an answer",
+         sheet.replace(place, "        ensures answer { result ≡ fills n }\n").replace("n: usize)", "n: usize) -> usize"),
+         laws.replace("pub fill-unique", "pub sheet-fill-unique").replace("proofs.fill", "proofs.Sheet.fill") + parts.partition("\n\n")[2], 1),
+        ("a part that is an argument", sheet.replace("≡ fills self.old.end n", "≡ n"), parts, 1),
+        ("a part that is a number", sheet.replace("≡ fills self.old.end n", "≡ 0"), parts, 1),
+        ("unknown fields", sheet.replace("Sheet", "Other"), parts.replace("Sheet.", "Other.").replace("sheet-", "other-"), 1),
         ("a part by no definition", sheet.replace("≡ fills", "≡ unheard"), parts, 1),
         ("no lemma of its place", sheet, parts.replace("pub sheet-fill-unique", "pub sheet-fill-other"), 1),
         ("no lemma of its buffer", sheet, parts.replace("pub sheet-fill-buffer-unique", "pub sheet-fill-buffer-other"), 1),
         ("nothing of a sheet that is handed out", shown, shows, 0),
         ("no lemma of a part of it", shown, shows.replace("pub sheet-fill-buffer-unique", "pub sheet-fill-buffer-other"), 1),
-        ("no definition of what the lemma says", shown, shows.replace("abbrev OneShown", "abbrev Other"), 2),
+        ("one part alone", shown.replace("        ensures end { result.end ≡ 0 }\n", ""), shows, 1),
+        ("no import of what the lemmas mean", shown, shows.replace("{OneShown}", "{Other}"), 2),
+        ("lemmas by a definition of their own", shown, shows.replace("use Rattle.words.proofs.Unique.{OneShown}", "abbrev OneShown : ⊤"), 2),
     ]
     for front in ("const ", "unsafe ", 'extern "C" ', "const unsafe "):
         faults.append((f"a pub {front}fn", good.replace("pub fn", f"pub {front}fn").replace(buffer + "\n", ""), laws, 1))
@@ -294,7 +324,7 @@ def self_test():
         if len(found) != expected:
             sys.exit(f"contracts: self-test: {fault}: expected {expected} faults, found {found}")
     for fault, text, lemmas, expected in faults:
-        found = [judged("a", "", *call, lemmas, {"fills", "fill_leaves"})[0] for call in calls(text)]
+        found = [judged("a", "", *call, lemmas, {"fills", "fill_leaves"}, fields_in([struct]))[0] for call in calls(text)]
         if [len(wants) for wants in found] != [expected]:
             sys.exit(f"contracts: self-test: {fault}: expected {expected} faults, found {found}")
 
@@ -328,10 +358,10 @@ def main(rows_only):
             of_library = {module: text for _, module, text in sources(root / "crates" / library)}
             own = {module: text.replace(f" {library}::", " LIBRARY::") for _, module, text in sources(crate)}
             faults += [f"crates/{crate.name}: {fault}" for fault in exported(of_library, own)]
+        structs = fields_in(text for _, _, text in sources(crate))
         for source, module, text in sources(crate):
-            of_std = {name for name, path in paths_of(text).items() if path.startswith("Rattle.std.specs.")}
             for name, kind, head in calls(text):
-                wants, cited, laws = judged(crate.name, module, name, kind, head, None if archive else lemmas, defined | of_std)
+                wants, cited, laws = judged(crate.name, module, name, kind, head, None if archive else lemmas, defined, structs)
                 exports += archive
                 call = f"{kind}::{name}" if kind else name
                 quoted = [", ".join(f"`{one}`" for one in some if one) for some in (cited[:1], cited[1:], laws)]

@@ -1,12 +1,7 @@
 -- Any two outcomes that the contract of a public call of this crate allows coincide: each contract is an equation.
 -- Assumes nothing.
-use mathlib.Core.Path.{◌≡◌, ◌∙◌, sym}
-use mathlib.Core.List.{List}
-use Prim.Native.Nat.{ℕ}
-use contract.Lifetimes.{Lfts}
-use borrow.Fn.Kinds.{ParamKind, ResultKind, Dens, res_t, ended_of, Out}
-use denote.Triple.Clauses.{AtExit}
-use Rattle.words.proofs.Unique.{OneAnswer, OneBuffer}
+use mathlib.Core.Path.{◌∙◌, sym}
+use Rattle.words.proofs.Unique.{OneAnswer, OneBuffer, OneShown}
 use Rattle.part_order.proofs.Tables.new.Kinds as tables-new-kinds
 use Rattle.part_order.proofs.Tables.new.Reads as tables-new
 use Rattle.part_order.proofs.Tables.order.Kinds as tables-order-kinds
@@ -20,11 +15,6 @@ tables-order-places-unique κs a x y u v p q = p.1.0 ∙ sym q.1.0
 
 pub tables-order-starts-unique : OneBuffer tables-order-kinds.ps tables-order-kinds.r (λ κs u. u.0.now.starts) tables-order.Post
 tables-order-starts-unique κs a x y u v p q = p.1.1.0 ∙ sym q.1.1.0
-
--- A result that is a struct of tables is told by each of them.
-abbrev OneShown : {n : ℕ} (ps : List (ParamKind n)) (r : ResultKind n) → ((κs : Lfts n) → (res_t r κs).Denot → List ℕ) → Out n ps r → Type 0
-OneShown {n} ps r shows post =
-    (κs : Lfts n) (a : Dens κs ps) (x y : (res_t r κs).Denot) (u v : AtExit (ended_of n ps r) κs) → post κs a x u → post κs a y v → shows κs x ≡ shows κs y
 
 pub tables-new-unique : OneShown tables-new-kinds.ps tables-new-kinds.r (λ κs x. x.places) tables-new.Post
 tables-new-unique κs a x y u v p q = p.0 ∙ sym q.0

@@ -1,13 +1,9 @@
 -- Any two outcomes that the contract of a public call of this crate allows coincide: each contract is an equation for the answer and one for the buffer.
 -- Of a sheet they are for the place, given as a list of one, and for the buffer.
 -- Assumes nothing.
-use mathlib.Core.Path.{◌≡◌, ◌∙◌, sym, ap}
-use mathlib.Core.List.{List, [], ◌∷◌}
-use Prim.Native.Nat.{ℕ}
-use contract.Lifetimes.{Lfts}
-use borrow.Fn.Kinds.{ParamKind, ResultKind, Dens, res_t, ended_of, Out}
-use denote.Triple.Clauses.{AtExit}
-use Rattle.words.proofs.Unique.{OneAnswer, OneBuffer}
+use mathlib.Core.Path.{◌∙◌, sym, ap}
+use mathlib.Core.List.{[], ◌∷◌}
+use Rattle.words.proofs.Unique.{OneAnswer, OneBuffer, OneShown}
 use Rattle.printed.proofs.Sheet.new.Kinds as new-kinds
 use Rattle.printed.proofs.Sheet.new.Reads as new
 use Rattle.printed.proofs.Sheet.written.Kinds as written-kinds
@@ -41,11 +37,6 @@ put-units-unique κs a x y u v p q = ap (λ k. k ∷ []) (p.0 ∙ sym q.0)
 
 pub put-units-buffer-unique : OneBuffer put-units-kinds.ps put-units-kinds.r (λ κs u. u.0.now.buffer.now) put-units.Post
 put-units-buffer-unique κs a x y u v p q = p.1.0 ∙ sym q.1.0
-
--- A result that holds a lent buffer, or a part of one, is told by the octets that it shows.
-abbrev OneShown : {n : ℕ} (ps : List (ParamKind n)) (r : ResultKind n) → ((κs : Lfts n) → (res_t r κs).Denot → List ℕ) → Out n ps r → Type 0
-OneShown {n} ps r shows post =
-    (κs : Lfts n) (a : Dens κs ps) (x y : (res_t r κs).Denot) (u v : AtExit (ended_of n ps r) κs) → post κs a x u → post κs a y v → shows κs x ≡ shows κs y
 
 pub new-unique : OneShown new-kinds.ps new-kinds.r (λ κs x. x.end ∷ []) new.Post
 new-unique κs a x y u v p q = ap (λ k. k ∷ []) (p.0 ∙ sym q.0)

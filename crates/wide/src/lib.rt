@@ -1,12 +1,13 @@
 // Which septet is none: the first of 128 or more.
 #![tactic(auto)]
 
-ghost use Rattle.std.specs.Prelude.{◌≡◌, fold, bit_or};
+ghost use Rattle.std.specs.Prelude.{◌≡◌};
 ghost use Rattle.lists.specs.Lists.{first_wide};
+ghost use Rattle.wide.specs.Bits.{any_bits};
 
 // The bits that any septet has: one test of the result judges them all. The fold vectorises, sixteen septets at a time.
 pub fn all_bits(septets: &[u8]) -> u8
-    ensures answer { result ≡ fold bit_or 0 septets.now }
+    ensures answer { result ≡ any_bits septets.now }
 {
     septets.iter().fold(0, |bits, septet| bits | septet)
 }
