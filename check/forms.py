@@ -20,7 +20,9 @@ FORMS = [
     ("packing by shifts and masks: what whole groups leave over", "groups", "pub fn left_over(", [r"<<", r" & "], [r" / "]),
     ("a [13; 93] array, its front overwritten by the text before packing", "closing", "pub fn page_of(", [r"\[13u8; 93\]", r"\[\.\.\w+\]\.copy_from_slice\("], [r"= 13;"]),
     ("an array of 88 octets goes in by value", "blocks", "pub fn read_header(", [r"block: \[u8; 88\]"], [r": &"]),
-    ("and out by value, header and text at fixed places", "blocks", "pub fn page_block(", [r"-> \[u8; 88\]", r"block\[\.\.6\]\.copy_from_slice\(", r"block\[6\.\.\]\.copy_from_slice\("], [r"-> &", r"mut block: "]),
+    ("and out by value, header and text at fixed places", "blocks", "pub fn page_block(", [r"\(head: Header, text: \[u8; 82\]\) -> \[u8; 88\]", r"head\.coding,\s+page,\s+\];", r"block\[\.\.6\]\.copy_from_slice\(", r"block\[6\.\.\]\.copy_from_slice\("], [r"-> &", r"mut block: "]),
+    ("a block of a message that is joined, taken out by value", "joining", "fn block(&self,", [r"-> \[u8; 88\]", r"blocks::block_at\("], [r"-> &"]),
+    ("and judged by value", "ordering", "fn belongs(", [r"\(first: \[u8; 88\], block: \[u8; 88\]\)"], [r": &"]),
     ("the block of 88 octets, handed over by value", "pages", "pub struct Page", [r"block: \[u8; 88\]"], [r"&"]),
     *[("the meter's small struct lent by &mut", "meter", f"pub fn {key}(", [r"meter: &mut Meter", r"\*meter = "], []) for key in ("add", "take_back", "clear")],
 ]
