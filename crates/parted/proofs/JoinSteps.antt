@@ -160,20 +160,25 @@ module _ (ucs2 : Bool) (cs o : List ℕ) where
       (sym (ap (λ (w : Verdict). settle w Err (ok_parts_joined (length (joined_text ucs2 cs o)) r (reference_in (numbers_at ucs2 cs o 0)) (length cs))) v), leaves-agree {x = joined_text ucs2 cs o} out v refl)
 
   module _ (reference : ℕ) (d : Ok reference ≡ part_order_of ucs2 cs o) where
-    pub text-sorted-few : length cs < 256 → (places starts : List ℕ) → places ≡ places_left ucs2 cs o → starts ≡ starts_left ucs2 cs o → Sorted ucs2 cs o places starts
+    -- no rule of the order refuses parts that have one
+    passed : (wrong_counts ucs2 cs o ≡ false) × (wrong_heads ucs2 cs o ≡ false) × (odd_parts ucs2 cs o ≡ false) × (wrong_parts ucs2 cs o ≡ false)
     unfolding order_rules
-    text-sorted-few few places starts x y =
+    passed =
         let one = accepted-rule (wrong_counts ucs2 cs o) WrongLength _ (order-accepted ucs2 cs o reference d) in
         let two = accepted-rule (wrong_heads ucs2 cs o) WrongHeader _ one.1 in
         let three = accepted-rule (odd_parts ucs2 cs o) WrongLength _ two.1 in
         let four = accepted-rule (wrong_parts ucs2 cs o) WrongPages [] three.1 in
-        let right = (right-read-once ucs2 cs o four.0).1 in
+        (one.0, two.0, three.0, four.0)
+
+    pub text-sorted-few : length cs < 256 → (places starts : List ℕ) → places ≡ places_left ucs2 cs o → starts ≡ starts_left ucs2 cs o → Sorted ucs2 cs o places starts
+    text-sorted-few few places starts x y =
+        let right = (right-read-once ucs2 cs o passed.3).1 in
         let left = left-right ucs2 cs o reference d in
         record {
-          fits = one.0;
-          heads = two.0;
-          even = three.0;
-          right = four.0;
+          fits = passed.0;
+          heads = passed.1;
+          even = passed.2;
+          right = passed.3;
           few = few;
           placed = λ k some most.
               ap (λ (l : List ℕ). get_or l k 0) (x ∙ sym left.0)
@@ -184,13 +189,8 @@ module _ (ucs2 : Bool) (cs o : List ℕ) where
 
     -- of octets the parts are so few, since their total is one
     pub text-sorted : Below 256 o → (places starts : List ℕ) → places ≡ places_left ucs2 cs o → starts ≡ starts_left ucs2 cs o → Sorted ucs2 cs o places starts
-    unfolding order_rules
     text-sorted b places starts x y =
-        let one = accepted-rule (wrong_counts ucs2 cs o) WrongLength _ (order-accepted ucs2 cs o reference d) in
-        let two = accepted-rule (wrong_heads ucs2 cs o) WrongHeader _ one.1 in
-        let three = accepted-rule (odd_parts ucs2 cs o) WrongLength _ two.1 in
-        let four = accepted-rule (wrong_parts ucs2 cs o) WrongPages [] three.1 in
-        let right = (right-read-once ucs2 cs o four.0).1 in
+        let right = (right-read-once ucs2 cs o passed.3).1 in
         text-sorted-few (omega (arith, right.count, total-at ucs2 cs o b 0)) places starts x y
 
     pub text-joins : (r : Reading) (out : List ℕ)
