@@ -21,25 +21,25 @@ returns-in_default-split_at_checked c =
 pub returns-in_default-data : goal.returns-in_default-data
 returns-in_default-data c =
     let at = c.in-Some-split_at_checked.ensures.cases in
-    scan-wrong _ c.args.body.now _ _ c.loop-identifier.invariant _ _ _ (two c.in-Some.ensures.cases.0 c.in-Some-split_first.ensures.cases.0) at.0 _ at.1 c.if-identifier-eq0.true
+    scan-wrong _ c.args.body.now _ _ c.loop-identifier.invariant _ _ _ (two c.in-Some.ensures.cases.0 c.in-Some-split_first.ensures.cases.0) at.0 _ at.1 (omega arith)
     (λ e. omega (arith, c.in_default-data.len_below, e))
 
 pub returns-in_default-data-2 : goal.returns-in_default-data-2
 returns-in_default-data-2 c =
     let at = c.in-Some-split_at_checked.ensures.cases in
-    scan-wrong _ c.args.body.now _ _ c.loop-identifier.invariant _ _ _ (two c.in-Some.ensures.cases.0 c.in-Some-split_first.ensures.cases.0) at.0 _ at.1 c.if-identifier-eq0.true
+    scan-wrong _ c.args.body.now _ _ c.loop-identifier.invariant _ _ _ (two c.in-Some.ensures.cases.0 c.in-Some-split_first.ensures.cases.0) at.0 _ at.1 (omega arith)
     (λ e. omega (arith, c.in_default-data.len_at_least, e))
 
 pub loop-identifier-preserved-in-len3 : goal.loop-identifier-preserved-in-len3
 loop-identifier-preserved-in-len3 c =
     let at = c.in-Some-split_at_checked.ensures.cases in
-    scan-numbers _ c.args.body.now _ _ c.loop-identifier.invariant _ _ _ (two c.in-Some.ensures.cases.0 c.in-Some-split_first.ensures.cases.0) at.0 _ at.1 _ at.2 c.if-identifier-eq0.true
+    scan-numbers _ c.args.body.now _ _ c.loop-identifier.invariant _ _ _ (two c.in-Some.ensures.cases.0 c.in-Some-split_first.ensures.cases.0) at.0 _ at.1 _ at.2 (omega arith)
     (omega (arith, c.in-len3.len_below, c.in-len3.len_at_least))
 
 pub loop-identifier-preserved : goal.loop-identifier-preserved
 loop-identifier-preserved c =
     let at = c.in-Some-split_at_checked.ensures.cases in
-    scan-other _ c.args.body.now _ _ c.loop-identifier.invariant _ _ _ (two c.in-Some.ensures.cases.0 c.in-Some-split_first.ensures.cases.0) at.0 _ at.1 _ at.2 c.if-identifier-eq0.false
+    scan-other _ c.args.body.now _ _ c.loop-identifier.invariant _ _ _ (two c.in-Some.ensures.cases.0 c.in-Some-split_first.ensures.cases.0) at.0 _ at.1 _ at.2 (λ e. omega (arith, e))
 
 pub returns : goal.returns
 returns c = scan-ends _ c.args.body.now _ _ c.loop-identifier.invariant c.in_default.ensures.cases

@@ -1,6 +1,6 @@
 -- The elements are laid over the front of out, one after the other, once the text is known to be digits, as many as they take, and to have room.
 use Prim.Native.Nat.{ℕ, ◌+◌, ◌*◌, ◌/◌, ◌%◌, ◌<◌}
-use mathlib.Core.Path.{◌≡◌, refl, sym, ap, ◌∙◌, subst}
+use mathlib.Core.Path.{◌≡◌, refl, sym, ap, ap₂, ◌∙◌, subst}
 use mathlib.Core.Bool.{true}
 use mathlib.Core.List.{List}
 use native.Mathlib.Omega.{arith}
@@ -10,8 +10,13 @@ use Rattle.std.specs.Prelude.{Some, is_some, IsSome}
 use Rattle.typed.specs.Spelling.{numbers_in, only_digits}
 use Rattle.typed.proofs.Spelling.{chunk-at, chunk-behind, chunk-within, chunks-end, fill-none, other-some, other-none, spelled-part, numbers-length, Filling, fill-more, fill-all, reads-parted, reads_short, reads_other, reads-done}
 use Rattle.words.proofs.Clauses.{answered}
+use borrow.Author.Rules.{rules}
 use Rattle.typed.proofs.read_elements.Goals as goal
 use Rattle.typed.proofs.read_elements.Goals.{then-text-DIGITS-ne0-via-then-text-DIGITS-ne0, then-text-DIGITS-ne0-via-else-text-DIGITS-ne0+then-out-n, then-text-DIGITS-ne0-via-else-text-DIGITS-ne0+else-out-n+then-is_some}
+
+-- what is left over, by the numbers that are divided
+left-over : {a b s w : ℕ} → a ≡ s → b ≡ w → a % b ≡ s % w
+left-over e d = ap₂ ◌%◌ e d
 
 pub returns-then-text-DIGITS-ne0 : goal.returns-then-text-DIGITS-ne0
 returns-then-text-DIGITS-ne0 g c =
@@ -19,7 +24,7 @@ returns-then-text-DIGITS-ne0 g c =
     let out = c.args.out.now in
     elim c.then-text-DIGITS-ne0.branch [
       | then-text-DIGITS-ne0-via-then-text-DIGITS-ne0 w ↦
-          answered (reads-parted g.T.Element.spelled g.T.Element.DIGITS s out (λ e. w.if-text-DIGITS-ne0.true (ap (λ (k : ℕ). length s % k) c.DIGITS-2.ensures ∙ e)))
+          answered (reads-parted g.T.Element.spelled g.T.Element.DIGITS s out (λ e. w.if-text-DIGITS-ne0.true (left-over (omega arith) (search rules) ∙ e)))
       | then-text-DIGITS-ne0-via-else-text-DIGITS-ne0+then-out-n w ↦
           answered (reads_short g.T.Element.spelled g.T.Element.DIGITS s out (subst (λ (k : ℕ). length out < length s / k) c.DIGITS.ensures w.if-out-n.true))
       | then-text-DIGITS-ne0-via-else-text-DIGITS-ne0+else-out-n+then-is_some w ↦
@@ -35,7 +40,7 @@ loop-i-init g c =
     let count : c.into_iter-i-iterator.result.count ≡ 0 = ap (λ i. i.count) same ∙ c.enumerate-i-items.ensures.count in
     let whole : s ≡ drop (w * c.into_iter-i-iterator.result.count) s = rw (count, mul-zero) refl in
     record {
-      size = ap (λ i. i.iter.size) same ∙ ap (λ i. i.size) source ∙ c.chunks_exact.ensures.size ∙ c.DIGITS-3.ensures;
+      size = ap (λ i. i.iter.size) same ∙ ap (λ i. i.size) source ∙ c.chunks_exact.ensures.size ∙ search rules;
       rest = ap (λ i. i.iter.rest.now) same ∙ ap (λ i. i.rest.now) source ∙ c.chunks_exact.ensures.rest ∙ whole;
       few = omega arith;
       filled = rw count (fill-none g.T.Element.spelled (numbers_in w (length s / c.DIGITS.result) s) c.args.out.now);
@@ -105,7 +110,7 @@ returns g c =
     let step = c.in-None.ensures.steps in
     let short : length c.loop-i.i-iterator.iter.rest.now < w = subst (λ (m : ℕ). length c.loop-i.i-iterator.iter.rest.now < m) c.loop-i.invariant.size step.0.1.0 in
     let end : k ≡ length s / w = chunks-end w (length s / w) k s c.loop-i.i-iterator.iter.rest.now g.met.T.Element.some refl (omega arith) c.loop-i.invariant.rest short in
-    let whole : length s % w ≡ 0 = sym (ap (λ (k : ℕ). length s % k) c.DIGITS-2.ensures) ∙ c.if-text-DIGITS-ne0.false in
+    let whole : length s % w ≡ 0 = sym (left-over (omega arith) (search rules)) ∙ c.if-text-DIGITS-ne0.false in
     let digits : only_digits 16 s ≡ true = other-none 16 s (ap is_some (sym c.first_other.ensures.answer) ∙ sym c.is_some.ensures ∙ c.if-is_some.false) in
     let out = c.args.out.now in
     let here : Filling g.T.Element.spelled (numbers_in w (length s / c.DIGITS.result) s) out (length s / w) c.loop-i.out

@@ -22,9 +22,12 @@ module _ (ucs2 : Bool) (cs o : List ℕ) (i at n : ℕ) (start : at ≡ start_at
   within : wrong_counts ucs2 cs o ≡ false → i < length cs → at + n ≤ length o
   within fits h = omega (arith, part-within ucs2 cs o fits i h, start, asked)
 
-  -- and is what is judged
-  judged-is : {x : Result Bool Refusal} → x ≡ head_judged ucs2 (get_or cs i 0) (take (at + n - at) (drop at o)) → x ≡ head_judged ucs2 (get_or cs i 0) (part_in ucs2 cs o i)
-  judged-is e = e ∙ ap (head_judged ucs2 (get_or cs i 0)) (part-is ucs2 cs o i at n start asked)
+  -- and is what is judged, where it begins there
+  judged-is : {x : Result Bool Refusal} {b : ℕ} → x ≡ head_judged ucs2 (get_or cs i 0) (take (at + n - b) (drop b o)) → b ≡ at → x ≡ head_judged ucs2 (get_or cs i 0) (part_in ucs2 cs o i)
+  judged-is e same =
+      e
+      ∙ ap (λ (b : ℕ). head_judged ucs2 (get_or cs i 0) (take (at + n - b) (drop b o))) same
+      ∙ ap (head_judged ucs2 (get_or cs i 0)) (part-is ucs2 cs o i at n start asked)
 
 pub overflow_add-end : goal.overflow_add-end
 overflow_add-end c = let p = c.args.self.now in
@@ -38,13 +41,13 @@ slice_bounds-judge_head-end c = let p = c.args.self.now in
 
 pub returns-in_err-even : goal.returns-in_err-even
 returns-in_err-even c = let p = c.args.self.now in
-    let wrong = head-wrong p.ucs2 _ _ _ (judged-is p.ucs2 p.counts.now p.octets.now _ _ _ c.loop-count.invariant.start c.octets_asked.ensures.0 c.in_err-even.ensures) in
+    let wrong = head-wrong p.ucs2 _ _ _ (judged-is p.ucs2 p.counts.now p.octets.now _ _ _ c.loop-count.invariant.start c.octets_asked.ensures.0 c.in_err-even.ensures (grind arith)) in
     let is : c.from_residual.result ≡ Err c.in_err-even.field-0.0 = search rules in
     is ∙ ap Err wrong.1 ∙ sym (heads-wrong p.ucs2 p.counts.now p.octets.now c.loop-count.count-index c.loop-count-test.true wrong.0)
 
 pub loop-count-preserved : goal.loop-count-preserved
 loop-count-preserved c = let p = c.args.self.now in
-    let even = head-even p.ucs2 _ _ _ (judged-is p.ucs2 p.counts.now p.octets.now _ _ _ c.loop-count.invariant.start c.octets_asked.ensures.0 c.in_ok-even.ensures) in
+    let even = head-even p.ucs2 _ _ _ (judged-is p.ucs2 p.counts.now p.octets.now _ _ _ c.loop-count.invariant.start c.octets_asked.ensures.0 c.in_ok-even.ensures (grind arith)) in
     heads-more p.ucs2 p.counts.now p.octets.now c.loop-count.invariant c.loop-count-test.true _ c.octets_asked.ensures.0 even.0 _ (ap (λ (b : Bool). c.loop-count.all_even && b) even.1)
 
 pub returns-then-not-all_even : goal.returns-then-not-all_even
